@@ -1,0 +1,11 @@
+-- Every definition of this crate and of those below it, opened: a claim that is `unfolding computed` computes.
+-- Assumes nothing.
+use Prim.Native.Nat.{ℕ}
+use Rattle.structural.specs.Computed.{computed as computedBelow}
+use Rattle.crossed_bounds.specs.Ranges.{finiteEnd, endOf, realRange, integerRange, rangeOf, crossedEnds, crossedBounds, crossed, higher, lower, higherInteger, lowerInteger, intersect, uncrossed, takeIn, takeInAll, combined}
+use Rattle.crossed_bounds.specs.Groups.{enter, enterAll, extend, extendAll}
+use Rattle.crossed_bounds.specs.CrossedBounds.{crossedFaults, memberIri, memberAttrs, memberExternal, memberKey, joins, groups, groupFaults, groupsFaults, rule5}
+
+unfoldable pub computed : ℕ
+unfolding computedBelow finiteEnd endOf realRange integerRange rangeOf crossedEnds crossedBounds crossed higher lower higherInteger lowerInteger intersect uncrossed takeIn takeInAll combined enter enterAll extend extendAll crossedFaults memberIri memberAttrs memberExternal memberKey joins groups groupFaults groupsFaults rule5
+computed = 0

@@ -1,0 +1,44 @@
+-- What holds of every order whose tests `lt` and `le` compute: `reals` and `integers` are two.
+-- Assumes nothing.
+use mathlib.Core.Path.{_≡_, refl, sym, _∙_}
+use mathlib.Core.Logic.{_⊎_, inl, inr}
+use mathlib.Core.Bool.{Bool, true, false, false≢true}
+
+-- a total order of the values that pass `ok`
+pub record Ordered {X : Type 0} (ok : X → Bool) (lt le : X → X → Bool) : Type 0 where
+  pub le-refl : (x : X) → ok x ≡ true → le x x ≡ true
+  pub lt-le : (x y : X) → lt x y ≡ true → le x y ≡ true
+  pub not-lt-le : (x y : X) → lt y x ≡ false → ok x ≡ true → ok y ≡ true → le x y ≡ true
+  pub le-not-lt : (x y : X) → le x y ≡ true → ok x ≡ true → ok y ≡ true → lt y x ≡ false
+  pub le-trans : (x y z : X) → le x y ≡ true → le y z ≡ true → ok x ≡ true → ok y ≡ true → ok z ≡ true → le x z ≡ true
+
+module _ {X : Type 0} {ok : X → Bool} {lt le : X → X → Bool} (o : Ordered ok lt le) where
+  pub clash : (x y : X) → lt x y ≡ true → le y x ≡ true → ok x ≡ true → ok y ≡ true → ⊥
+  clash x y h k p q = false≢true (sym (o .le-not-lt y x k q p) ∙ h)
+
+  pub total : (x y : X) → ok x ≡ true → ok y ≡ true → (le x y ≡ true) ⊎ (le y x ≡ true)
+  total x y p q = arm (lt y x) refl
+    where
+      arm : (b : Bool) → lt y x ≡ b → (le x y ≡ true) ⊎ (le y x ≡ true)
+      arm true h = inr (o .lt-le y x h)
+      arm false h = inl (o .not-lt-le x y h p q)
+
+  pub lt-irrefl : (x : X) → ok x ≡ true → lt x x ≡ false
+  lt-irrefl x p = o .le-not-lt x x (o .le-refl x p) p p
+
+  pub lt-le-trans : (x y z : X) → lt x y ≡ true → le y z ≡ true → ok x ≡ true → ok y ≡ true → ok z ≡ true → lt x z ≡ true
+  lt-le-trans x y z h k p q r = arm (lt x z) refl
+    where
+      arm : (b : Bool) → lt x z ≡ b → b ≡ true
+      arm true e = refl
+      arm false e = absurd (clash x y h (o .le-trans y z x k (o .not-lt-le z x e r p) q r p) p q)
+
+  pub le-lt-trans : (x y z : X) → le x y ≡ true → lt y z ≡ true → ok x ≡ true → ok y ≡ true → ok z ≡ true → lt x z ≡ true
+  le-lt-trans x y z h k p q r = arm (lt x z) refl
+    where
+      arm : (b : Bool) → lt x z ≡ b → b ≡ true
+      arm true e = refl
+      arm false e = absurd (clash y z k (o .le-trans z x y (o .not-lt-le z x e r p) h r p q) q r)
+
+  pub lt-trans : (x y z : X) → lt x y ≡ true → lt y z ≡ true → ok x ≡ true → ok y ≡ true → ok z ≡ true → lt x z ≡ true
+  lt-trans x y z h k = lt-le-trans x y z h (o .lt-le y z k)

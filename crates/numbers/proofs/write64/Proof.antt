@@ -1,0 +1,18 @@
+-- `numbers::write64` meets its contract: the two halves are the number.
+-- Assumes nothing.
+use borrow.Author.Needs.{needs}
+use Rattle.numbers.proofs.Bytes.{patch-halves}
+use Rattle.numbers.proofs.write64.Statement.{statement}
+use Rattle.numbers.proofs.write64.Tie as tie
+
+pub write64-spec : {M : Type 1} → statement M
+write64-spec =
+    tie.close
+    (tie.spec
+    (λ c. search needs)
+    (λ c κs. search needs)
+    (λ c. search needs)
+    (λ c. search needs)
+    (λ c κs. search needs)
+    (λ c. search needs)
+    (λ c. search (patch-halves 4, needs)))

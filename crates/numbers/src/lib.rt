@@ -1,0 +1,98 @@
+// Numbers in bytes, read and written, and what 64 bits stand for.
+use base::copy_at;
+ghost use mathlib.Core.Path.{_≡_};
+ghost use Prim.Native.Nat.{_+_, _≤_, _<_};
+ghost use lib.ListN.{length};
+ghost use lib.Ieee.Scale.{finite};
+ghost use Rattle.base.specs.Buffers.{patch};
+ghost use Rattle.numbers.specs.Bytes.{le16, le32, le64, leBytes, signed64, real64};
+
+pub fn wide(x: u8) -> usize
+    ensures { λ r. ⌜ (r ≡ x) × (r < 256) ⌝ }
+{
+    x as usize
+}
+
+// ---- the number that stands in a slice from index at on
+
+pub fn read16(s: &[u8], at: usize) -> usize
+    requires { ⌜ at + 2 ≤ length (now s) ⌝ }
+    ensures { λ r. ⌜ (r ≡ le16 (now (s .entry)) at) × (r < 65536) ⌝ }
+{
+    wide(s[at]) + 256 * wide(s[at + 1])
+}
+
+pub fn read32(s: &[u8], at: usize) -> usize
+    requires { ⌜ at + 4 ≤ length (now s) ⌝ }
+    ensures { λ r. ⌜ (r ≡ le32 (now (s .entry)) at) × (r < 4294967296) ⌝ }
+{
+    read16(s, at) + 65536 * read16(s, at + 2)
+}
+
+pub fn read64(s: &[u8], at: usize) -> u64
+    requires { ⌜ at + 8 ≤ length (now s) ⌝ }
+    ensures { λ r. ⌜ r ≡ le64 (now (s .entry)) at ⌝ }
+{
+    let low = read32(s, at);
+    let high = read32(s, at + 4);
+    low as u64 + 4294967296 * (high as u64)
+}
+
+// ---- a number written into a slice from index at on
+
+pub fn write16(s: &mut [u8], at: usize, v: u16)
+    requires { ⌜ at + 2 ≤ length (now s) ⌝ }
+    ensures { λ _. ⌜ now (s .exit) ≡ patch (now (s .entry)) at (leBytes 2 v) ⌝ }
+{
+    let bytes: [u8; 2] = [(v % 256) as u8, (v / 256 % 256) as u8];
+    copy_at(s, at, &bytes);
+}
+
+pub fn write32(s: &mut [u8], at: usize, v: u32)
+    requires { ⌜ at + 4 ≤ length (now s) ⌝ }
+    ensures { λ _. ⌜ now (s .exit) ≡ patch (now (s .entry)) at (leBytes 4 v) ⌝ }
+{
+    write16(s, at, (v % 65536) as u16);
+    write16(s, at + 2, (v / 65536) as u16);
+}
+
+pub fn write64(s: &mut [u8], at: usize, v: u64)
+    requires { ⌜ at + 8 ≤ length (now s) ⌝ }
+    ensures { λ _. ⌜ now (s .exit) ≡ patch (now (s .entry)) at (leBytes 8 v) ⌝ }
+{
+    write32(s, at, (v % 4294967296) as u32);
+    write32(s, at + 4, (v / 4294967296) as u32);
+}
+
+// ---- what 64 bits stand for
+
+// Every pattern of a NaN gives the one NaN.
+pub fn real_of_bits(b: u64) -> f64
+    ensures { λ r. ⌜ r ≡ real64 b ⌝ }
+{
+    if b % 0x8000_0000_0000_0000 > 0x7ff0_0000_0000_0000 {
+        return 0.0 / 0.0;
+    }
+    f64::from_bits(b)
+}
+
+pub fn int_of_bits(b: u64) -> i64
+    ensures { λ r. ⌜ r ≡ signed64 b ⌝ }
+{
+    if b < 0x8000_0000_0000_0000 {
+        return b as i64;
+    }
+    let up = (0xffff_ffff_ffff_ffff - b) as i64;
+    -1 - up
+}
+
+// Neither a NaN nor an infinity.
+pub fn is_finite(x: f64) -> bool
+    ensures { λ r. ⌜ r ≡ finite x ⌝ }
+{
+    let top = f64::from_bits(0x7ff0_0000_0000_0000);
+    if x < top {
+        return -top < x;
+    }
+    false
+}

@@ -1,0 +1,60 @@
+-- Diagnostics and their subjects.
+-- Assumes nothing.
+use Prim.Native.Nat.{ℕ}
+use mathlib.Core.Bool.{Bool, true, false, cond, not}
+use mathlib.Core.List.{List}
+use lib.Dec.{eqb}
+use lib.ListN.{length}
+use Rattle.base.specs.Lists.{any, keep}
+use Rattle.oce_model.specs.Format.{noText}
+use Rattle.oce_model.specs.Model.{Block, Connector}
+use Rattle.oce_diag.specs.declared.Severity.{Severity}
+use Rattle.oce_diag.specs.declared.Severity.the-variants.{Error, Warning}
+use Rattle.oce_diag.specs.declared.DiagCode.{DiagCode}
+use Rattle.oce_diag.specs.declared.Subject.{Subject}
+use Rattle.oce_diag.specs.declared.Subject.the-variants.{Text, Connector as OfConnector, Block as OfBlock}
+use Rattle.oce_diag.specs.declared.Diagnostic.{Diagnostic}
+
+-- `subject_of`: a connector's iri when known, else `connector#` and its id
+unfoldable pub subjectOf : Connector → Subject
+subjectOf c = cond (eqb (c .iri) noText) (OfConnector (c .id)) (Text (c .iri))
+
+-- `block_subject_of`: a block's instance iri when known, else `block#` and its id
+unfoldable pub blockSubjectOf : Block → Subject
+blockSubjectOf b = cond (eqb (b .instanceIri) noText) (OfBlock (b .id)) (Text (b .instanceIri))
+
+unfoldable pub diagnostic : Severity → DiagCode → ℕ → ℕ → Subject → ℕ → Diagnostic
+diagnostic severity code rule detail subject place = record {
+  severity = severity;
+  code = code;
+  rule = rule;
+  detail = detail;
+  subject = subject;
+  place = place;
+}
+
+-- `Diagnostic::error` and `Diagnostic::warning`: code, rule, detail, subject, place
+abbrev pub error : DiagCode → ℕ → ℕ → Subject → ℕ → Diagnostic
+error = diagnostic Error
+
+abbrev pub warning : DiagCode → ℕ → ℕ → Subject → ℕ → Diagnostic
+warning = diagnostic Warning
+
+-- `Severity::is_error`
+abbrev pub isErrorSeverity : Severity → Bool
+isErrorSeverity Error = true
+isErrorSeverity Warning = false
+
+abbrev pub isError : Diagnostic → Bool
+isError d = isErrorSeverity (d .severity)
+
+-- the list holds an error
+unfoldable pub hasError : List Diagnostic → Bool
+hasError ds = any isError ds
+
+-- document 01: 'the answer is the number of errors and of warnings'
+unfoldable pub errors : List Diagnostic → ℕ
+errors ds = length (keep isError ds)
+
+unfoldable pub warnings : List Diagnostic → ℕ
+warnings ds = length (keep (λ d. not (isError d)) ds)

@@ -1,0 +1,61 @@
+-- The bytes of a report. Document 01, 'The report': 'One diagnostic is tag 0x20, length 16, then severity, code, rule, detail, subject kind, three zero bytes,
+-- subject number 4, place 4'.
+-- Assumes nothing.
+use Prim.Native.Nat.{ℕ, _+_}
+use mathlib.Core.List.{List, [], _∷_, _++_}
+use Rattle.numbers.specs.Bytes.{leBytes}
+use Rattle.oce_diag.specs.declared.Severity.{Severity}
+use Rattle.oce_diag.specs.declared.Severity.the-variants.{Error, Warning}
+use Rattle.oce_diag.specs.declared.DiagCode.{DiagCode}
+use Rattle.oce_diag.specs.declared.DiagCode.the-variants.{MalformedDocument, DirectionMismatch, SingleAssignment, TypeMismatch, UnitQuantityMismatch, BoundMismatch, CrossedBounds, DisplayUnitDivergence}
+use Rattle.oce_diag.specs.declared.Subject.{Subject}
+use Rattle.oce_diag.specs.declared.Subject.the-variants.{Nothing, Text, Connector, Block}
+use Rattle.oce_diag.specs.declared.Diagnostic.{Diagnostic}
+
+abbrev pub diagnosticTag : ℕ
+diagnosticTag = 0x20
+
+-- the bytes of a diagnostic's contents, and of all of it
+abbrev pub diagnosticLength : ℕ
+diagnosticLength = 16
+
+abbrev pub diagnosticSize : ℕ
+diagnosticSize = 3 + diagnosticLength
+
+-- document 01's numbers for a severity, a code and a subject kind
+abbrev pub severityNumber : Severity → ℕ
+severityNumber Error = 0
+severityNumber Warning = 1
+
+abbrev pub codeNumber : DiagCode → ℕ
+codeNumber MalformedDocument = 1
+codeNumber DirectionMismatch = 2
+codeNumber SingleAssignment = 3
+codeNumber TypeMismatch = 4
+codeNumber UnitQuantityMismatch = 5
+codeNumber BoundMismatch = 6
+codeNumber CrossedBounds = 7
+codeNumber DisplayUnitDivergence = 8
+
+abbrev pub subjectKind : Subject → ℕ
+subjectKind Nothing = 0
+subjectKind (Text t) = 1
+subjectKind (Connector i) = 2
+subjectKind (Block i) = 3
+
+-- a text's number or an id, 0 for no subject
+abbrev pub subjectNumber : Subject → ℕ
+subjectNumber Nothing = 0
+subjectNumber (Text t) = t
+subjectNumber (Connector i) = i
+subjectNumber (Block i) = i
+
+unfoldable pub diagnosticBytes : Diagnostic → List ℕ
+diagnosticBytes d =
+    diagnosticTag ∷ leBytes 2 diagnosticLength
+    ++ severityNumber (d .severity) ∷ codeNumber (d .code) ∷ d .rule ∷ d .detail ∷ subjectKind (d .subject) ∷ 0 ∷ 0 ∷ 0
+    ∷ leBytes 4 (subjectNumber (d .subject)) ++ leBytes 4 (d .place)
+
+unfoldable pub reportBytes : List Diagnostic → List ℕ
+reportBytes [] = []
+reportBytes (d ∷ ds) = diagnosticBytes d ++ reportBytes ds

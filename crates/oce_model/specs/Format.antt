@@ -1,0 +1,135 @@
+-- The numbers of document 01, 'The model image'. Every other file cites them by these names.
+-- Assumes nothing.
+use Prim.Native.Nat.{ℕ}
+use mathlib.Core.List.{List, [], _∷_}
+use lib.ListN.{getD}
+
+-- ---- fields
+
+-- the bytes of a field before its contents: a tag and a length of two
+abbrev pub leadingBytes : ℕ
+leadingBytes = 3
+
+abbrev pub headTag : ℕ
+headTag = 1
+
+abbrev pub textTag : ℕ
+textTag = 2
+
+abbrev pub blockTag : ℕ
+blockTag = 3
+
+abbrev pub connectorTag : ℕ
+connectorTag = 4
+
+abbrev pub connectionTag : ℕ
+connectionTag = 5
+
+abbrev pub externalInputTag : ℕ
+externalInputTag = 6
+
+abbrev pub boundaryInputTag : ℕ
+boundaryInputTag = 7
+
+abbrev pub boundaryOutputTag : ℕ
+boundaryOutputTag = 8
+
+abbrev pub highestTag : ℕ
+highestTag = boundaryOutputTag
+
+-- ---- the table's last column: the most records of each tag
+unfoldable pub most : ℕ → ℕ
+most t = getD (0 ∷ 1 ∷ 1024 ∷ 256 ∷ 1024 ∷ 2048 ∷ 1024 ∷ 256 ∷ 256 ∷ []) t 0
+
+-- ---- the table's contents: the bytes of each tag's contents. A text has 0 to longestText, a block blockLength and portLength for each port
+abbrev pub longestText : ℕ
+longestText = 255
+
+abbrev pub blockLength : ℕ
+blockLength = 10
+
+abbrev pub portLength : ℕ
+portLength = 4
+
+abbrev pub mostPorts : ℕ
+mostPorts = 256
+
+unfoldable pub fixedLength : ℕ → ℕ
+fixedLength t = getD (0 ∷ 20 ∷ 0 ∷ 0 ∷ 48 ∷ 8 ∷ 4 ∷ 34 ∷ 38 ∷ []) t 0
+
+-- ---- the whole image: a head alone has the fewest bytes
+abbrev pub shortestImage : ℕ
+shortestImage = 23
+
+abbrev pub longestImage : ℕ
+longestImage = 65535
+
+-- ---- the head
+abbrev pub version : ℕ
+version = 1
+
+-- ---- types and attribute kinds
+abbrev pub realKind : ℕ
+realKind = 0
+
+abbrev pub integerKind : ℕ
+integerKind = 1
+
+abbrev pub booleanKind : ℕ
+booleanKind = 2
+
+abbrev pub stringKind : ℕ
+stringKind = 3
+
+abbrev pub enumKind : ℕ
+enumKind = 4
+
+-- ---- directions, as the Rust's `Dir`
+abbrev pub dirIn : ℕ
+dirIn = 0
+
+abbrev pub dirOut : ℕ
+dirOut = 1
+
+-- ---- the text number that means none, only for a block's instance and a connector's iri
+abbrev pub noText : ℕ
+noText = 65535
+
+-- ---- attributes: how many bytes, and the bits that mark what is set. The first six are also the places of their numbers
+abbrev pub attrsLength : ℕ
+attrsLength = 32
+
+abbrev pub quantityBit : ℕ
+quantityBit = 0
+
+abbrev pub unitBit : ℕ
+unitBit = 1
+
+abbrev pub displayUnitBit : ℕ
+displayUnitBit = 2
+
+abbrev pub minBit : ℕ
+minBit = 3
+
+abbrev pub maxBit : ℕ
+maxBit = 4
+
+abbrev pub nominalBit : ℕ
+nominalBit = 5
+
+abbrev pub unboundedBit : ℕ
+unboundedBit = 6
+
+-- the value of unbounded, where unboundedBit marks it as set
+abbrev pub unboundedValueBit : ℕ
+unboundedValueBit = 7
+
+-- ---- where attributes stand, from the start of a field of each kind that has them
+abbrev pub connectorAttrs : ℕ
+connectorAttrs = 19
+
+abbrev pub boundaryInputAttrs : ℕ
+boundaryInputAttrs = 5
+
+abbrev pub boundaryOutputAttrs : ℕ
+boundaryOutputAttrs = 9

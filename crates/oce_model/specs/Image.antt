@@ -1,0 +1,71 @@
+-- The fields of an image. Document 01, 'A field is a tag byte, a two-byte length, then contents'.
+-- Assumes nothing.
+use Prim.Native.Nat.{ℕ, zero, suc, _+_}
+use mathlib.Core.Bool.{Bool, cond}
+use mathlib.Core.List.{List, [], _∷_}
+use mathlib.Core.Option.{Option, none, some}
+use lib.ListN.{length}
+use lib.Dec.{eqb, leb}
+use Rattle.base.specs.Lists.{keep}
+use Rattle.numbers.specs.Bytes.{byte, le16}
+use Rattle.oce_model.specs.Format.{leadingBytes}
+
+-- A field: the offset of its tag, the tag, the length of its contents, the tag of the field before (0 for the first),
+-- and how many fields with its tag stand right before it. Where tags don't fall, those are all with its tag.
+pub record Field : Type 0 where
+  pub at : ℕ
+  pub tag : ℕ
+  pub len : ℕ
+  pub prev : ℕ
+  pub ord : ℕ
+
+-- where the field at an offset ends. Bytes past the image's end read as 0, so a field whose leading bytes run past it ends past it too
+unfoldable pub fieldEnd : List ℕ → ℕ → ℕ
+fieldEnd s at = at + leadingBytes + le16 s (at + 1)
+
+-- the field at an offset
+unfoldable pub fieldAt : List ℕ → ℕ → ℕ → ℕ → Field
+fieldAt s at prev ord = record { at = at; tag = byte s at; len = le16 s (at + 1); prev = prev; ord = ord }
+
+-- how many fields with the tag t stand right before a field of that tag, where n fields with the tag prev do
+abbrev pub ordOf : ℕ → ℕ → ℕ → ℕ
+ordOf prev n t = cond (eqb prev t) n 0
+
+-- The fields from an offset on, up to the first that runs past the end; n fields with the tag prev stand right before.
+-- A field has at least three bytes, so the first number, at the start the image's length, is never used up.
+unfoldable pub fieldsFrom : ℕ → List ℕ → ℕ → ℕ → ℕ → List Field
+fieldsFrom zero s at prev n = []
+fieldsFrom (suc k) s at prev n =
+    let o = ordOf prev n (byte s at) in
+    let rest = fieldsFrom k s (fieldEnd s at) (byte s at) (suc o) in
+    cond (leb (fieldEnd s at) (length s)) (fieldAt s at prev o ∷ rest) []
+
+unfoldable pub fields : List ℕ → List Field
+fields s = fieldsFrom (length s) s 0 0 0
+
+-- the offset at which the fields stop: the image's length, or the offset of the first field that runs past it
+unfoldable pub stopFrom : ℕ → List ℕ → ℕ → ℕ
+stopFrom zero s at = at
+stopFrom (suc k) s at =
+    let rest = stopFrom k s (fieldEnd s at) in
+    cond (leb (fieldEnd s at) (length s)) rest at
+
+unfoldable pub stop : List ℕ → ℕ
+stop s = stopFrom (length s) s 0
+
+-- the fields with a tag
+unfoldable pub ofTag : ℕ → List Field → List Field
+ofTag t fs = keep (λ f. eqb (f .tag) t) fs
+
+-- the offset of the first field that passes a test
+unfoldable pub first : (Field → Bool) → List Field → Option ℕ
+first p [] = none
+first p (f ∷ fs) = let t = first p fs in cond (p f) (some (f .at)) t
+
+-- where the records of tag t begin: the offset of the first field with a tag from t on, the image's length if there is none
+abbrev pub orEnd : Option ℕ → ℕ → ℕ
+orEnd none n = n
+orEnd (some at) n = at
+
+unfoldable pub startOf : ℕ → List ℕ → ℕ
+startOf t s = orEnd (first (λ f. leb t (f .tag)) (fields s)) (length s)

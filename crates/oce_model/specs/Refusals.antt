@@ -1,0 +1,136 @@
+-- Document 01, 'When an image is turned away': refusals 1 to 8, the lowest number first, each with the offset of the first field at fault.
+-- Assumes nothing.
+use Prim.Native.Nat.{ℕ, zero, suc, _+_, _*_}
+use mathlib.Core.Bool.{Bool, cond, not, _&&_, _||_, false}
+use mathlib.Core.List.{List}
+use mathlib.Core.Option.{Option, none, some}
+use lib.ListN.{length}
+use lib.Dec.{eqb, leb, ltb}
+use Rattle.base.specs.Lists.{any}
+use Rattle.numbers.specs.Bytes.{le16, bit}
+use Rattle.oce_model.specs.Format.{headTag, textTag, blockTag, connectorTag, boundaryInputTag, boundaryOutputTag, highestTag, most, longestText, blockLength, portLength, mostPorts, fixedLength, shortestImage, longestImage, version, integerKind, enumKind, dirOut, noText, quantityBit, unitBit, displayUnitBit, minBit, maxBit, nominalBit, unboundedBit, unboundedValueBit, connectorAttrs, boundaryInputAttrs, boundaryOutputAttrs}
+use Rattle.oce_model.specs.Attributes.{Attrs, attrsAt, num}
+use Rattle.oce_model.specs.Image.{Field, fields, stop, ofTag, first}
+use Rattle.oce_model.specs.Texts.{isTextByte, textOf}
+use Rattle.oce_model.specs.Model.{Block, Connector, BoundaryInput, BoundaryOutput, inputCountAt, outputCountAt, blockAt, connectorAt, boundaryInputAt, boundaryOutputAt}
+
+-- a refusal's number and offset
+pub record Refusal : Type 0 where
+  pub number : ℕ
+  pub offset : ℕ
+
+-- 3: 'A tag is outside 1 to 8 or below the one before, the first isn't 1, or a second 1 stands'. prev is the tag before, 0 for the first field
+unfoldable pub tagIsBad : ℕ → ℕ → Bool
+tagIsBad t prev = eqb t 0 || ltb highestTag t || ltb t prev || cond (eqb prev 0) (not (eqb t headTag)) (eqb t headTag)
+
+unfoldable pub badTag : Field → Bool
+badTag f = tagIsBad (f .tag) (f .prev)
+
+-- 4: 'A length isn't the table's, or a block's port count exceeds 256'
+unfoldable pub badBlockLength : List ℕ → Field → Bool
+badBlockLength s f =
+    not (eqb (f .len) (blockLength + portLength * (inputCountAt s (f .at) + outputCountAt s (f .at))))
+    || ltb mostPorts (inputCountAt s (f .at)) || ltb mostPorts (outputCountAt s (f .at))
+
+unfoldable pub badLength : List ℕ → Field → Bool
+badLength s f =
+    cond (eqb (f .tag) textTag) (ltb longestText (f .len))
+    (cond (eqb (f .tag) blockTag) (badBlockLength s f)
+    (not (eqb (f .len) (fixedLength (f .tag)))))
+
+-- 5: 'A kind has more records than the table allows (at fault: the first beyond)'
+unfoldable pub tooMany : Field → Bool
+tooMany f = leb (most (f .tag)) (f .ord)
+
+-- 6: 'Version, zero bytes, direction, type, enum class or the attribute rules are broken'
+abbrev pub versionAt : List ℕ → ℕ → ℕ
+versionAt s at = le16 s (at + 3)
+
+-- the head's two zero bytes
+abbrev pub zeroBytesAt : List ℕ → ℕ → ℕ
+zeroBytesAt s at = le16 s (at + 5)
+
+unfoldable pub badHead : List ℕ → ℕ → Bool
+badHead s at = not (eqb (versionAt s at) version) || not (eqb (zeroBytesAt s at) 0)
+
+unfoldable pub badConnector : Connector → Bool
+badConnector c =
+    ltb dirOut (c .dir) || ltb enumKind (c .valueType)
+    || (not (eqb (c .valueType) enumKind) && not (eqb (c .enumClass) 0))
+
+-- 'An unset field is all zero bytes'
+unfoldable pub stray : Attrs → ℕ → Bool
+stray a p = not (bit (a .marks) p) && not (eqb (num a p) 0)
+
+-- 'bit 7 only stands with bit 6, kind Integer sets only bits 3 and 4, kinds 2 to 4 set none'
+unfoldable pub badAttrs : Attrs → Bool
+badAttrs a =
+    let b = a .marks in
+    ltb enumKind (a .kind) || (bit b unboundedValueBit && not (bit b unboundedBit))
+    || (eqb (a .kind) integerKind && (bit b quantityBit || bit b unitBit || bit b displayUnitBit || bit b nominalBit || bit b unboundedBit))
+    || (ltb integerKind (a .kind) && not (eqb b 0))
+    || stray a quantityBit || stray a unitBit || stray a displayUnitBit || stray a minBit || stray a maxBit || stray a nominalBit
+
+-- where the attributes of a field stand: connectors, boundary inputs and boundary outputs have them
+unfoldable pub attrsOffset : Field → Option ℕ
+attrsOffset f =
+    cond (eqb (f .tag) connectorTag) (some (f .at + connectorAttrs))
+    (cond (eqb (f .tag) boundaryInputTag) (some (f .at + boundaryInputAttrs))
+    (cond (eqb (f .tag) boundaryOutputTag) (some (f .at + boundaryOutputAttrs)) none))
+
+abbrev pub onAttrs : List ℕ → (Attrs → Bool) → Option ℕ → Bool
+onAttrs s p none = false
+onAttrs s p (some at) = p (attrsAt s at)
+
+unfoldable pub badContents : List ℕ → Field → Bool
+badContents s f =
+    (eqb (f .tag) headTag && badHead s (f .at))
+    || (eqb (f .tag) connectorTag && badConnector (connectorAt s (f .at)))
+    || onAttrs s badAttrs (attrsOffset f)
+
+-- 7: 'A text byte is outside 0x20 to 0x7E'
+unfoldable pub badText : List ℕ → Field → Bool
+badText s f = eqb (f .tag) textTag && any (λ b. not (isTextByte b)) (textOf s f)
+
+-- 8: 'A text number in use isn't below the number of texts and isn't an allowed none'; n is the number of texts
+unfoldable pub badTextNumbers : ℕ → Attrs → Bool
+badTextNumbers n a =
+    (bit (a .marks) quantityBit && leb n (num a quantityBit))
+    || (bit (a .marks) unitBit && leb n (num a unitBit))
+    || (bit (a .marks) displayUnitBit && leb n (num a displayUnitBit))
+
+unfoldable pub badOrNone : ℕ → ℕ → Bool
+badOrNone n t = leb n t && not (eqb t noText)
+
+unfoldable pub badReference : ℕ → List ℕ → Field → Bool
+badReference n s f =
+    (eqb (f .tag) blockTag && badOrNone n (blockAt s (f .at) .instanceIri))
+    || (eqb (f .tag) connectorTag && badOrNone n (connectorAt s (f .at) .iri))
+    || (eqb (f .tag) boundaryInputTag && leb n (boundaryInputAt s (f .at) .iri))
+    || (eqb (f .tag) boundaryOutputTag && leb n (boundaryOutputAt s (f .at) .iri))
+    || onAttrs s (badTextNumbers n) (attrsOffset f)
+
+-- the field is at fault under refusal k, for k from 3 to 8
+unfoldable pub fault : ℕ → ℕ → List ℕ → Field → Bool
+fault k n s f =
+    cond (eqb k 3) (badTag f) (cond (eqb k 4) (badLength s f) (cond (eqb k 5) (tooMany f)
+    (cond (eqb k 6) (badContents s f) (cond (eqb k 7) (badText s f) (badReference n s f)))))
+
+abbrev pub refusedAt : ℕ → Option ℕ → Option Refusal → Option Refusal
+refusedAt k none r = r
+refusedAt k (some at) r = some (record { number = k; offset = at })
+
+-- the refusals from k on, j of them: 'the lowest number that applies anywhere, with the offset of the first field at fault'
+unfoldable pub refusalsFrom : ℕ → ℕ → List ℕ → List Field → Option Refusal
+refusalsFrom zero k s fs = none
+refusalsFrom (suc j) k s fs =
+    let rest = refusalsFrom j (suc k) s fs in
+    refusedAt k (first (fault k (length (ofTag textTag fs)) s) fs) rest
+
+-- 1: 'The image is shorter than 23 or longer than 65,535 bytes' (offset 0)
+-- 2: 'A field's three leading bytes or its contents run past the image's end'
+unfoldable pub refusal : List ℕ → Option Refusal
+refusal s =
+    let rest = refusalsFrom 6 3 s (fields s) in
+    cond (ltb (length s) shortestImage || ltb longestImage (length s)) (some (record { number = 1; offset = 0 }))
+    (cond (ltb (stop s) (length s)) (some (record { number = 2; offset = stop s })) rest)

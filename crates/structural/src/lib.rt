@@ -1,0 +1,1 @@
+// Rules 1 to 4, as rules/structural.rs has them.

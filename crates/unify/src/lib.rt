@@ -1,0 +1,1 @@
+// Rule 6, as rules/unify.rs has it.
