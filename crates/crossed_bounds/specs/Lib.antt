@@ -1,5 +1,6 @@
--- Ranges of attribute sets, and rule 5 (rules/crossed_bounds.rs).
+-- Ranges of attribute sets, the values that lie in them, and rule 5 (rules/crossed_bounds.rs).
 pub mod Ranges
+pub mod Values
 pub mod Groups
 pub mod CrossedBounds
 pub mod Computed

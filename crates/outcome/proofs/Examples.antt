@@ -4,8 +4,8 @@ use mathlib.Core.Path.{_≡_, refl}
 use mathlib.Core.List.{map}
 use lib.Ieee.{ofBits, lt}
 use Rattle.oce_model.specs.Examples.{written}
-use Rattle.oce_validate.specs.Examples.{cases, found, wanted}
-use Rattle.oce_validate.specs.Computed.{computed}
+use Rattle.outcome.specs.Examples.{cases, found, wanted}
+use Rattle.outcome.specs.Computed.{computed}
 
 pub checked : map found cases ≡ map wanted cases
 unfolding computed written cases ofBits lt

@@ -12,10 +12,10 @@ use Rattle.oce_model.specs.Refusals.{Refusal, refusal}
 use Rattle.oce_diag.specs.Diagnostics.{errors, warnings}
 use Rattle.oce_diag.specs.Encoding.{diagnosticSize, reportBytes}
 use Rattle.oce_diag.specs.declared.Diagnostic.{Diagnostic}
-use Rattle.oce_validate.specs.Report.{report}
-use Rattle.oce_validate.specs.Filled.{filledOf}
-use Rattle.oce_validate.specs.declared.Answer.{Answer}
-use Rattle.oce_validate.specs.declared.Answer.the-variants.{Refused, Checked}
+use Rattle.outcome.specs.Report.{report}
+use Rattle.outcome.specs.Filled.{filledOf}
+use Rattle.outcome.specs.declared.Answer.{Answer}
+use Rattle.outcome.specs.declared.Answer.the-variants.{Refused, Checked}
 
 -- the report of an image
 unfoldable pub reportOf : List ℕ → List Diagnostic

@@ -16,11 +16,11 @@ use Rattle.oce_model.specs.Refusals.{refusal}
 use Rattle.oce_diag.specs.Diagnostics.{hasError, errors, warnings}
 use Rattle.oce_diag.specs.Encoding.{reportBytes}
 use Rattle.crossed_bounds.specs.Ranges.{rangeOf, finiteEnd}
-use Rattle.oce_validate.specs.Filled.{filledOf}
-use Rattle.oce_validate.specs.Answer.{reportOf}
-use Rattle.oce_validate.specs.Values.{Datum, ofKind, ofType, inside}
-use Rattle.oce_validate.specs.declared.Answer.{Answer}
-use Rattle.oce_validate.specs.declared.Answer.the-variants.{Checked}
+use Rattle.outcome.specs.Filled.{filledOf}
+use Rattle.outcome.specs.Answer.{reportOf}
+use Rattle.crossed_bounds.specs.Values.{Datum, ofKind, ofType, inside}
+use Rattle.outcome.specs.declared.Answer.{Answer}
+use Rattle.outcome.specs.declared.Answer.the-variants.{Checked}
 
 -- ---- how values move
 

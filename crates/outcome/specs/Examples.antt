@@ -11,8 +11,8 @@ use Rattle.oce_diag.specs.Diagnostics.{error, warning}
 use Rattle.oce_diag.specs.declared.Diagnostic.{Diagnostic}
 use Rattle.oce_diag.specs.declared.Subject.the-variants.{Nothing, Text, Connector}
 use Rattle.oce_diag.specs.declared.DiagCode.the-variants.{MalformedDocument, DirectionMismatch, SingleAssignment, UnitQuantityMismatch, BoundMismatch, CrossedBounds, DisplayUnitDivergence}
-use Rattle.oce_validate.specs.Filled.{filledOf}
-use Rattle.oce_validate.specs.Answer.{reportOf, reportSize, answer, numbersOf}
+use Rattle.outcome.specs.Filled.{filledOf}
+use Rattle.outcome.specs.Answer.{reportOf, reportSize, answer, numbersOf}
 
 -- an image and what a check of it shall give: its diagnostics, its filled bytes, its errors and warnings
 pub record Case : Type 0 where

@@ -10,7 +10,7 @@ use Rattle.oce_model.specs.Attributes.{attrsBytes}
 use Rattle.oce_model.specs.Image.{Field, fields, ofTag}
 use Rattle.oce_model.specs.Model.{modelOf}
 use Rattle.unify.specs.Slots.{Slots, slot}
-use Rattle.oce_validate.specs.Report.{finalSlots}
+use Rattle.outcome.specs.Report.{finalSlots}
 
 -- where the attributes of each slot stand in the image
 unfoldable pub slotOffsets : List ℕ → List ℕ

@@ -1,0 +1,3 @@
+-- Demand 3: values that move along connections.
+pub mod Moved
+pub mod Computed

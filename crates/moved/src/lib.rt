@@ -1,0 +1,1 @@
+// Demand 3: values that move along connections. No code.

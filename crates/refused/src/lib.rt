@@ -1,0 +1,1 @@
+// Images that are turned away. No code.
