@@ -233,9 +233,21 @@ fn filled(before: &ModelGraph, after: &ModelGraph, texts: &Texts) -> Vec<Filled>
     let inputs = before.boundary_inputs.iter().zip(&after.boundary_inputs);
     let outputs = before.boundary_outputs.iter().zip(&after.boundary_outputs);
     let mut all = Vec::new();
-    all.extend(changed(TAG_CONNECTOR, connectors.map(|(a, b)| (&a.attrs, &b.attrs)), texts));
-    all.extend(changed(TAG_BOUNDARY_INPUT, inputs.map(|(a, b)| (&a.attrs, &b.attrs)), texts));
-    all.extend(changed(TAG_BOUNDARY_OUTPUT, outputs.map(|(a, b)| (&a.attrs, &b.attrs)), texts));
+    all.extend(changed(
+        TAG_CONNECTOR,
+        connectors.map(|(a, b)| (&a.attrs, &b.attrs)),
+        texts,
+    ));
+    all.extend(changed(
+        TAG_BOUNDARY_INPUT,
+        inputs.map(|(a, b)| (&a.attrs, &b.attrs)),
+        texts,
+    ));
+    all.extend(changed(
+        TAG_BOUNDARY_OUTPUT,
+        outputs.map(|(a, b)| (&a.attrs, &b.attrs)),
+        texts,
+    ));
     all
 }
 

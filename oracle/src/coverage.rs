@@ -59,7 +59,9 @@ impl Coverage {
 
     /// In how many images this detail occurs.
     pub fn images_with(&self, rule: u8, detail: u8) -> usize {
-        self.details.get(&(rule, detail)).map_or(0, |seen| seen.images)
+        self.details
+            .get(&(rule, detail))
+            .map_or(0, |seen| seen.images)
     }
 
     /// Refusals and details that don't occur.
@@ -87,7 +89,11 @@ impl Coverage {
         for key in details() {
             let seen = self.details.get(&key).copied().unwrap_or_default();
             let (rule, detail) = key;
-            let _ = writeln!(out, "| {rule}.{detail} | {} | {} |", seen.images, seen.diagnostics);
+            let _ = writeln!(
+                out,
+                "| {rule}.{detail} | {} | {} |",
+                seen.images, seen.diagnostics
+            );
         }
         out
     }
@@ -95,5 +101,7 @@ impl Coverage {
 
 /// Every rule and detail of document 01.
 pub fn details() -> impl Iterator<Item = (u8, u8)> {
-    (1..).zip(DETAILS).flat_map(|(rule, most)| (1..=most).map(move |detail| (rule, detail)))
+    (1..)
+        .zip(DETAILS)
+        .flat_map(|(rule, most)| (1..=most).map(move |detail| (rule, detail)))
 }

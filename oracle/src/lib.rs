@@ -12,5 +12,6 @@ pub mod printed;
 pub mod random;
 pub mod reader;
 pub mod stored;
+pub mod tool;
 
 pub use oce_validate::{TimeTable, check_finite_bounds, validate};

@@ -51,13 +51,18 @@ impl Marked {
         };
         new.iter()
             .enumerate()
-            .map(|(index, d)| match (rule.number, detail(rule.number, &d.message)) {
-                (1, 2 | 3) => number_behind(&d.message, " port "),
-                (3, 2) => number_behind(&d.message, "in-degree "),
-                (4, _) => of_connections.get(index).copied(),
-                COMBINED => None,
-                _ => marked.get(index).filter(|m| m.message == d.message).and_then(index_of),
-            })
+            .map(
+                |(index, d)| match (rule.number, detail(rule.number, &d.message)) {
+                    (1, 2 | 3) => number_behind(&d.message, " port "),
+                    (3, 2) => number_behind(&d.message, "in-degree "),
+                    (4, _) => of_connections.get(index).copied(),
+                    COMBINED => None,
+                    _ => marked
+                        .get(index)
+                        .filter(|m| m.message == d.message)
+                        .and_then(index_of),
+                },
+            )
             .collect()
     }
 
@@ -89,6 +94,8 @@ fn index_of(marked: &Diagnostic) -> Option<u32> {
 
 fn number_behind(message: &str, before: &str) -> Option<u32> {
     let (_, rest) = message.split_once(before)?;
-    let digits = rest.find(|c: char| !c.is_ascii_digit()).unwrap_or(rest.len());
+    let digits = rest
+        .find(|c: char| !c.is_ascii_digit())
+        .unwrap_or(rest.len());
     rest[..digits].parse().ok()
 }

@@ -14,7 +14,11 @@ pub fn print(answer: &Answer) -> String {
 }
 
 fn print_report(report: &Report) -> String {
-    let mut out = format!("errors {} warnings {}\n", report.errors(), report.warnings());
+    let mut out = format!(
+        "errors {} warnings {}\n",
+        report.errors(),
+        report.warnings()
+    );
     for told in &report.diagnostics {
         out.push_str(&diagnostic_line(told));
         let _ = writeln!(out, "\n\t{}", told.message);
@@ -36,7 +40,9 @@ pub fn diagnostic_line(told: &Told) -> String {
     } else {
         "warning"
     };
-    let place = told.place.map_or_else(|| "?".to_owned(), |place| place.to_string());
+    let place = told
+        .place
+        .map_or_else(|| "?".to_owned(), |place| place.to_string());
     format!(
         "{severity} {} {}.{} {place} {}",
         code_name(told.code),
@@ -61,12 +67,27 @@ fn print_filled(out: &mut String, slot: &Filled) {
     };
     let text = |number: u16| format!("text {number}");
     let end = |bits: u64| end(is.kind, bits);
-    line(SET_QUANTITY, "quantity", was.quantity != is.quantity, text(is.quantity));
+    line(
+        SET_QUANTITY,
+        "quantity",
+        was.quantity != is.quantity,
+        text(is.quantity),
+    );
     line(SET_UNIT, "unit", was.unit != is.unit, text(is.unit));
-    line(SET_DISPLAY_UNIT, "display unit", was.display_unit != is.display_unit, text(is.display_unit));
+    line(
+        SET_DISPLAY_UNIT,
+        "display unit",
+        was.display_unit != is.display_unit,
+        text(is.display_unit),
+    );
     line(SET_MIN, "min", was.min != is.min, end(is.min));
     line(SET_MAX, "max", was.max != is.max, end(is.max));
-    line(SET_NOMINAL, "nominal", was.nominal != is.nominal, end(is.nominal));
+    line(
+        SET_NOMINAL,
+        "nominal",
+        was.nominal != is.nominal,
+        end(is.nominal),
+    );
 }
 
 fn end(kind: u8, bits: u64) -> String {

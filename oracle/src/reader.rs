@@ -106,7 +106,9 @@ pub fn read(image: &[u8]) -> Result<Accepted, Refusal> {
     first_fault(REFUSED_COUNT, &fields, count_fault())?;
     first_fault(REFUSED_VALUE, &fields, |_, f| value_fault(f))?;
     first_fault(REFUSED_TEXT_BYTE, &fields, |_, f| text_byte_fault(f))?;
-    first_fault(REFUSED_TEXT_NUMBER, &fields, |_, f| text_number_fault(f, texts))?;
+    first_fault(REFUSED_TEXT_NUMBER, &fields, |_, f| {
+        text_number_fault(f, texts)
+    })?;
     Ok(decode(&fields))
 }
 
@@ -143,7 +145,11 @@ fn first_fault(
     fields: &[Field<'_>],
     mut fault: impl FnMut(usize, &Field<'_>) -> bool,
 ) -> Result<(), Refusal> {
-    match fields.iter().enumerate().find(|(index, f)| fault(*index, f)) {
+    match fields
+        .iter()
+        .enumerate()
+        .find(|(index, f)| fault(*index, f))
+    {
         Some((_, f)) => Err(refused(number, f.at)),
         None => Ok(()),
     }
@@ -261,7 +267,9 @@ fn decode(fields: &[Field<'_>]) -> Accepted {
     let head = fields[0].contents;
     let model = ModelGraph {
         blocks: of_tag(TAG_BLOCK).map(|f| block(f, &texts)).collect(),
-        connectors: of_tag(TAG_CONNECTOR).map(|f| connector(f, &texts)).collect(),
+        connectors: of_tag(TAG_CONNECTOR)
+            .map(|f| connector(f, &texts))
+            .collect(),
         connections: of_tag(TAG_CONNECTION)
             .map(|f| Connection {
                 from: ConnectorId(u32_at(f.contents, 0)),
@@ -357,8 +365,11 @@ fn attrs(f: &Field<'_>, texts: &Texts) -> Attrs {
 /// The attribute bytes that the image would hold for these attributes.
 pub fn raw_attrs(attrs: &Attrs, texts: &Texts) -> RawAttrs {
     let text = |text: &Option<Arc<str>>| {
-        text.as_ref()
-            .map(|text| texts.number(text).expect("an attribute's text is one of the image's"))
+        text.as_ref().map(|text| {
+            texts
+                .number(text)
+                .expect("an attribute's text is one of the image's")
+        })
     };
     let mut raw = RawAttrs::default();
     let mut mark = |bit: u8, there: bool| raw.set |= if there { bit } else { 0 };

@@ -2,7 +2,7 @@
 //! `docs/STORED_ANSWERS.md` describes.
 
 use crate::answer::{Answer, Filled, Report, Told, answer};
-use crate::format::*;
+use crate::bench;
 use crate::generator::{Family, LIMIT_CASES, generate_with_family, limit_case};
 use crate::models::models;
 use crate::random::Random;
@@ -20,6 +20,8 @@ pub const MAX_RECORD: usize = 131_072;
 pub const SEED: u64 = 231;
 pub const GENERATED: usize = 700;
 pub const OTHER_DEFAULTS: usize = 24;
+/// So many of the benchmark's images are stored too.
+pub const LARGE: u64 = 8;
 /// A generated image's record is at most this long, so that many fit.
 pub const MAX_GENERATED_RECORD: usize = 6_000;
 
@@ -40,6 +42,10 @@ pub fn files() -> Vec<File> {
     files.extend(pack("models", models.map(|image| record(&image))));
     files.extend(pack("generated", generated(true).take(GENERATED)));
     files.extend(pack("limits", limits()));
+    files.extend(pack(
+        "large",
+        (0..LARGE).map(|index| record(&bench::image(index))),
+    ));
     files.extend(pack("defaults", generated(false).take(OTHER_DEFAULTS)));
     files
 }
@@ -183,7 +189,10 @@ pub fn images(file: &[u8]) -> Result<Vec<&[u8]>, String> {
         if image_end > end {
             return Err(format!("the image at {image_at} is longer than its record"));
         }
-        images.push(file.get(image_at..image_end).ok_or(format!("cut at {image_at}"))?);
+        images.push(
+            file.get(image_at..image_end)
+                .ok_or(format!("cut at {image_at}"))?,
+        );
         at = end;
     }
     if at != file.len() {

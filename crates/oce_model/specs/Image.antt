@@ -9,15 +9,7 @@ use lib.Dec.{eqb, leb}
 use Rattle.base.specs.Lists.{keep}
 use Rattle.numbers.specs.Bytes.{byte, le16}
 use Rattle.oce_model.specs.Format.{leadingBytes}
-
--- A field: the offset of its tag, the tag, the length of its contents, the tag of the field before (0 for the first),
--- and how many fields with its tag stand right before it. Where tags don't fall, those are all with its tag.
-pub record Field : Type 0 where
-  pub at : ℕ
-  pub tag : ℕ
-  pub len : ℕ
-  pub prev : ℕ
-  pub ord : ℕ
+pub use Rattle.oce_model.specs.declared.Field.{Field}
 
 -- where the field at an offset ends. Bytes past the image's end read as 0, so a field whose leading bytes run past it ends past it too
 unfoldable pub fieldEnd : List ℕ → ℕ → ℕ

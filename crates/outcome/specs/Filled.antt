@@ -7,7 +7,8 @@ use Rattle.base.specs.Lists.{steps}
 use Rattle.base.specs.Buffers.{patch}
 use Rattle.oce_model.specs.Format.{connectorTag, boundaryOutputTag, connectorAttrs, boundaryOutputAttrs}
 use Rattle.oce_model.specs.Attributes.{attrsBytes}
-use Rattle.oce_model.specs.Image.{Field, fields, ofTag}
+use Rattle.oce_model.specs.Image.{fields, ofTag}
+use Rattle.oce_model.specs.declared.Field.{Field}
 use Rattle.oce_model.specs.Model.{modelOf}
 use Rattle.unify.specs.Slots.{Slots, slot}
 use Rattle.outcome.specs.Report.{finalSlots}

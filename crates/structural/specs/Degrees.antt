@@ -4,7 +4,8 @@ use Prim.Native.Nat.{ℕ}
 use mathlib.Core.Bool.{Bool, cond}
 use lib.Dec.{eqb}
 use Rattle.base.specs.Lists.{tally, any}
-use Rattle.oce_model.specs.Model.{Connection, Model, connection, connectionCount, isConnector}
+use Rattle.oce_model.specs.Model.{Model, connection, connectionCount, isConnector}
+use Rattle.oce_model.specs.declared.Connection.{Connection}
 
 -- The in-degree of connector i: document 01, rule 3, 'counts every connection by `to`, even one whose `from` is out of range'. It is 0 where i is no connector's number.
 unfoldable pub degree : Model → ℕ → ℕ

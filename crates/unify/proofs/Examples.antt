@@ -3,7 +3,7 @@
 use Prim.Native.Nat.{ℕ}
 use mathlib.Core.Path.{_≡_, refl}
 use mathlib.Core.List.{List, [], _∷_, map}
-use lib.Ieee.{ofBits, lt}
+use lib.Ieee.{ofBits, lt, eq}
 use Rattle.oce_model.specs.Model.{modelOf}
 use Rattle.oce_model.specs.Examples.{models, written}
 use Rattle.oce_diag.specs.Diagnostics.{error, warning}
@@ -27,7 +27,7 @@ pub unify : map reported models
     ∷ []
     ∷ (error UnitQuantityMismatch 6 1 (Connector 1) 1 ∷ [])
     ∷ [] ∷ [] ∷ []
-unfolding computed written ofBits lt
+unfolding computed written ofBits lt eq
 unify = refl
 
 -- f and n: a min of 5 beside a max of 3
@@ -37,5 +37,5 @@ pub propagation : map (λ s. propagated (modelOf s)) models
     ∷ [] ∷ [] ∷ [] ∷ [] ∷ [] ∷ [] ∷ []
     ∷ (error CrossedBounds 6 8 (Connector 0) 0 ∷ [])
     ∷ [] ∷ [] ∷ [] ∷ [] ∷ []
-unfolding computed written ofBits lt
+unfolding computed written ofBits lt eq
 propagation = refl

@@ -1,37 +1,25 @@
 //! Times the oracle's six rules on the fixed images. Usage: bench [COUNT]
 
-use std::fmt::Write as _;
-use std::io::Write as _;
+use std::fmt::Write;
 use std::process::ExitCode;
 use std::time::Duration;
 
 use oracle::bench::{IMAGES, MAX_CONNECTORS, Measured, RUNS, SEED, measure};
+use oracle::tool;
 
 fn main() -> ExitCode {
-    match run() {
-        Ok(()) => ExitCode::SUCCESS,
-        Err(message) => {
-            eprintln!("bench: {message}");
-            ExitCode::FAILURE
+    tool::run("bench", |arguments| {
+        let count = match arguments {
+            [] => IMAGES,
+            [count] => tool::number("COUNT", count)?,
+            _ => return Err("usage: bench [COUNT]".to_owned()),
+        };
+        if !(1..=IMAGES).contains(&count) {
+            return Err(format!("COUNT must be from 1 to {IMAGES}, got {count}"));
         }
-    }
-}
-
-fn run() -> Result<(), String> {
-    let arguments: Vec<String> = std::env::args().skip(1).collect();
-    let count = match arguments.as_slice() {
-        [] => IMAGES,
-        [count] => count
-            .parse()
-            .ok()
-            .filter(|count| (1..=IMAGES).contains(count))
-            .ok_or(format!("COUNT must be a number from 1 to {IMAGES}, got {count:?}"))?,
-        _ => return Err("usage: bench [COUNT]".to_owned()),
-    };
-    let all: Vec<Measured> = (0..count).map(measure).collect();
-    std::io::stdout()
-        .write_all(report(&all).as_bytes())
-        .map_err(|e| format!("cannot write: {e}"))
+        let all: Vec<Measured> = (0..count).map(measure).collect();
+        Ok(report(&all).into_bytes())
+    })
 }
 
 fn report(all: &[Measured]) -> String {
@@ -44,19 +32,32 @@ fn report(all: &[Measured]) -> String {
         sum(|m| m.connections),
         sum(|m| m.diagnostics)
     );
-    let _ = writeln!(out, "Microseconds for an image, least of {RUNS} runs; sums in milliseconds.\n");
+    let _ = writeln!(
+        out,
+        "Microseconds for an image, least of {RUNS} runs; sums in milliseconds.\n"
+    );
     out.push_str("| images | count | sum | mean | median | maximum | sum of first runs |\n");
     out.push_str("|---|---|---|---|---|---|---|\n");
     row(&mut out, "all", &all.iter().collect::<Vec<_>>());
     for (name, with_errors) in [("without errors", false), ("with errors", true)] {
-        let half: Vec<&Measured> = all.iter().filter(|m| m.with_errors == with_errors).collect();
+        let half: Vec<&Measured> = all
+            .iter()
+            .filter(|m| m.with_errors == with_errors)
+            .collect();
         row(&mut out, name, &half);
     }
     let step = MAX_CONNECTORS / 10;
     for low in (1..=MAX_CONNECTORS).step_by(step) {
         let sizes = low..low + step;
-        let part: Vec<&Measured> = all.iter().filter(|m| sizes.contains(&m.connectors)).collect();
-        row(&mut out, &format!("{low} to {} connectors", low + step - 1), &part);
+        let part: Vec<&Measured> = all
+            .iter()
+            .filter(|m| sizes.contains(&m.connectors))
+            .collect();
+        row(
+            &mut out,
+            &format!("{low} to {} connectors", low + step - 1),
+            &part,
+        );
     }
     out
 }

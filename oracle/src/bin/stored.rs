@@ -2,39 +2,28 @@
 //! Usage: stored write FOLDER, stored check FOLDER, stored coverage FOLDER
 
 use std::fs;
-use std::io::Write as _;
 use std::path::Path;
 use std::process::ExitCode;
 
 use oracle::answer::answer;
 use oracle::coverage::Coverage;
 use oracle::stored::{File, SEED, files, images};
+use oracle::tool;
 
 fn main() -> ExitCode {
-    match run() {
-        Ok(()) => ExitCode::SUCCESS,
-        Err(message) => {
-            eprintln!("stored: {message}");
-            ExitCode::FAILURE
-        }
-    }
-}
-
-fn run() -> Result<(), String> {
-    let arguments: Vec<String> = std::env::args().skip(1).collect();
-    let [what, folder] = arguments.as_slice() else {
-        return Err("usage: stored write|check|coverage FOLDER".to_owned());
-    };
-    let folder = Path::new(folder);
-    let say = match what.as_str() {
-        "write" => write(folder)?,
-        "check" => check(folder)?,
-        "coverage" => coverage(folder)?,
-        other => return Err(format!("no such command: {other:?}; write, check or coverage")),
-    };
-    std::io::stdout()
-        .write_all(say.as_bytes())
-        .map_err(|e| format!("cannot write: {e}"))
+    tool::run("stored", |arguments| {
+        let [what, folder] = arguments else {
+            return Err("usage: stored write|check|coverage FOLDER".to_owned());
+        };
+        let folder = Path::new(folder);
+        let say = match what.as_str() {
+            "write" => write(folder)?,
+            "check" => check(folder)?,
+            "coverage" => coverage(folder)?,
+            other => return Err(format!("{other:?} is none of write, check, coverage")),
+        };
+        Ok(say.into_bytes())
+    })
 }
 
 fn write(folder: &Path) -> Result<String, String> {
@@ -42,7 +31,8 @@ fn write(folder: &Path) -> Result<String, String> {
     fs::create_dir_all(folder).map_err(|e| format!("cannot make {}: {e}", folder.display()))?;
     for file in &files {
         let path = folder.join(&file.name);
-        fs::write(&path, &file.bytes).map_err(|e| format!("cannot write {}: {e}", path.display()))?;
+        fs::write(&path, &file.bytes)
+            .map_err(|e| format!("cannot write {}: {e}", path.display()))?;
     }
     Ok(format!("seed {SEED}: {}", sums(&files)?))
 }
@@ -63,7 +53,10 @@ fn sums(files: &[File]) -> Result<String, String> {
         count += images(&file.bytes)?.len();
     }
     let bytes: usize = files.iter().map(|file| file.bytes.len()).sum();
-    Ok(format!("{count} images in {} files, {bytes} bytes\n", files.len()))
+    Ok(format!(
+        "{count} images in {} files, {bytes} bytes\n",
+        files.len()
+    ))
 }
 
 fn coverage(folder: &Path) -> Result<String, String> {

@@ -35,6 +35,13 @@ const REALS: [u64; 26] = [
     0xFFFF_FFFF_FFFF_FFFF,
 ];
 
+/// Pairs that differ in their bits alone: the zeros, NaN of two payloads, NaN of two signs.
+const ALIKE: [[u64; 2]; 3] = [
+    [0x0000_0000_0000_0000, 0x8000_0000_0000_0000],
+    [0x7FF8_0000_0000_0000, 0x7FF8_0000_0000_0001],
+    [0x7FF8_0000_0000_0000, 0xFFF8_0000_0000_0000],
+];
+
 /// Finite ones among them, ascending, for ranges that aren't crossed.
 const ASCENDING: [f64; 12] = [
     -f64::MAX,
@@ -132,7 +139,10 @@ pub fn range(r: &mut Random, kind: u8) -> (u64, u64) {
     if kind == KIND_INTEGER {
         let low = r.below(ASCENDING_INTEGERS.len());
         let high = r.between(low, ASCENDING_INTEGERS.len() - 1);
-        (ASCENDING_INTEGERS[low] as u64, ASCENDING_INTEGERS[high] as u64)
+        (
+            ASCENDING_INTEGERS[low] as u64,
+            ASCENDING_INTEGERS[high] as u64,
+        )
     } else {
         let low = r.below(ASCENDING.len());
         let high = r.between(low, ASCENDING.len() - 1);
@@ -167,14 +177,23 @@ pub struct Pool {
 const OF: usize = 8;
 
 impl Pool {
-    /// One to three values of each sort: one value agrees everywhere, more also conflict.
+    /// One to three values of each sort: one value agrees everywhere, more also conflict. Now
+    /// and then the Reals are two that are easily taken for one.
     pub fn new(r: &mut Random) -> Self {
         let mut count = || r.pick(&[1, 1, 1, 2, 3]);
         let (words, reals, integers) = (count(), count(), count());
         Self {
             words: (0..words).map(|_| word(r)).collect(),
-            reals: (0..reals).map(|_| real(r)).collect(),
-            integers: (0..integers).map(|_| integer(r)).collect(),
+            reals: if r.chance(1, 5) {
+                r.pick(&ALIKE).to_vec()
+            } else {
+                (0..reals).map(|_| real(r)).collect()
+            },
+            integers: if r.chance(1, 8) {
+                vec![1 << 53, (1 << 53) + 1]
+            } else {
+                (0..integers).map(|_| integer(r)).collect()
+            },
             set: r.pick(&[1, 2, 3, 4, 6]),
         }
     }

@@ -18,7 +18,12 @@ pub fn clusters(r: &mut Random, mixed: bool) -> Draft {
     }
     let ids = |dir: u8| {
         let of_dir = |c: &&Connector| c.dir == dir;
-        draft.connectors.iter().filter(of_dir).map(|c| c.id).collect()
+        draft
+            .connectors
+            .iter()
+            .filter(of_dir)
+            .map(|c| c.id)
+            .collect()
     };
     let (inputs, outputs) = (ids(DIR_IN), ids(DIR_OUT));
     draft.blocks.push(Block {
@@ -30,8 +35,51 @@ pub fn clusters(r: &mut Random, mixed: bool) -> Draft {
     draft
 }
 
+/// Chains: each connector drives the next, in ascending, descending or any order of roots, so
+/// that what one root fills another root meets.
+pub fn chains(r: &mut Random) -> Draft {
+    let mut draft = Draft::default();
+    let pool = Pool::new(r);
+    let value_type = r.pick(&[KIND_REAL, KIND_REAL, KIND_INTEGER]);
+    let count = r.between(3, 6) as u32;
+    let first = r.pick(&[DIR_IN, DIR_OUT]);
+    for id in 0..count {
+        let dir = if id == 0 { first } else { DIR_IN };
+        add(r, &mut draft, &pool, dir, value_type, false);
+    }
+    let mut order: Vec<u32> = (0..count).collect();
+    match r.below(3) {
+        0 => {}
+        1 => order.reverse(),
+        _ => (1..order.len()).for_each(|left| order.swap(left, r.below(left + 1))),
+    }
+    for pair in order.windows(2) {
+        let (from, to) = (pair[0], pair[1]);
+        draft.connections.push(Connection { from, to });
+    }
+    if r.chance(1, 4) {
+        let (from, to) = (r.pick(&order), order[0]);
+        draft.connections.push(Connection { from, to });
+    }
+    draft.external_inputs.push(order[0]);
+    draft.blocks.push(Block {
+        id: 0,
+        instance: NO_TEXT,
+        inputs: order,
+        outputs: Vec::new(),
+    });
+    draft
+}
+
 fn cluster(r: &mut Random, draft: &mut Draft, pool: &Pool, mixed: bool) {
-    let value_type = r.pick(&[KIND_REAL, KIND_REAL, KIND_REAL, KIND_INTEGER, KIND_INTEGER, KIND_ENUM]);
+    let value_type = r.pick(&[
+        KIND_REAL,
+        KIND_REAL,
+        KIND_REAL,
+        KIND_INTEGER,
+        KIND_INTEGER,
+        KIND_ENUM,
+    ]);
     let root = add(r, draft, pool, DIR_OUT, value_type, mixed);
     for _ in 0..r.between(0, 4) {
         let to = add(r, draft, pool, DIR_IN, value_type, mixed);
@@ -78,7 +126,13 @@ fn add(
 ) -> u32 {
     let id = draft.connectors.len() as u32;
     let kind = if mixed && r.chance(1, 2) {
-        r.pick(&[KIND_REAL, KIND_INTEGER, KIND_BOOLEAN, KIND_STRING, KIND_ENUM])
+        r.pick(&[
+            KIND_REAL,
+            KIND_INTEGER,
+            KIND_BOOLEAN,
+            KIND_STRING,
+            KIND_ENUM,
+        ])
     } else {
         value_type
     };

@@ -19,18 +19,24 @@ fn damage(r: &mut Random, mut image: Vec<u8>) -> Vec<u8> {
         3 => image.truncate(r.below(image.len() + 1)),
         4 => image.extend((0..r.between(1, 4)).map(|_| r.pick(&[0, 1, 8, 255]))),
         5 => image.extend(field(TAG_BOUNDARY_OUTPUT, &[0; BOUNDARY_OUTPUT_LEN])),
-        6 => return with_fields(r, &image, |r, fields| {
-            let (one, other) = (r.below(fields.len()), r.below(fields.len()));
-            fields.swap(one, other);
-        }),
-        7 => return with_fields(r, &image, |r, fields| {
-            let at = r.below(fields.len());
-            fields.remove(at);
-        }),
-        _ => return with_fields(r, &image, |r, fields| {
-            let at = r.below(fields.len());
-            fields.insert(at, fields[at].clone());
-        }),
+        6 => {
+            return with_fields(r, &image, |r, fields| {
+                let (one, other) = (r.below(fields.len()), r.below(fields.len()));
+                fields.swap(one, other);
+            });
+        }
+        7 => {
+            return with_fields(r, &image, |r, fields| {
+                let at = r.below(fields.len());
+                fields.remove(at);
+            });
+        }
+        _ => {
+            return with_fields(r, &image, |r, fields| {
+                let at = r.below(fields.len());
+                fields.insert(at, fields[at].clone());
+            });
+        }
     }
     image
 }
@@ -46,7 +52,7 @@ fn change(r: &mut Random, image: &mut [u8], from: usize) {
         0 => *byte ^ (1 << r.below(8)),
         1 => byte.wrapping_add(1),
         2 => byte.wrapping_sub(1),
-        _ => r.next() as u8,
+        _ => r.bits() as u8,
     };
 }
 

@@ -52,7 +52,14 @@ pub fn inject(r: &mut Random, draft: &mut Draft, rule: u8, detail: u8) -> bool {
 /// An index or id that isn't below `count`.
 fn beyond(r: &mut Random, count: usize) -> u32 {
     let count = count as u32;
-    r.pick(&[count, count + 1, count + 100, 1 << 31, u32::MAX - 1, u32::MAX])
+    r.pick(&[
+        count,
+        count + 1,
+        count + 100,
+        1 << 31,
+        u32::MAX - 1,
+        u32::MAX,
+    ])
 }
 
 /// An id that isn't `index`: beyond, or another record's.
@@ -91,7 +98,11 @@ fn rule_1(r: &mut Random, draft: &mut Draft, detail: u8) -> Option<()> {
             let bad = beyond(r, connectors);
             let index = r.below(blocks);
             let block = draft.blocks.get_mut(index)?;
-            let ports = if detail == 2 { &mut block.inputs } else { &mut block.outputs };
+            let ports = if detail == 2 {
+                &mut block.inputs
+            } else {
+                &mut block.outputs
+            };
             let room = ports.len() < MAX_PORTS;
             let port = r.below(ports.len() + 1);
             match ports.get_mut(port) {
@@ -133,7 +144,13 @@ fn boundary_output(r: &mut Random, draft: &mut Draft, kinds: &[u8]) -> Option<us
     Some(draft.boundary_outputs.len() - 1)
 }
 
-const ALL_KINDS: [u8; 5] = [KIND_REAL, KIND_INTEGER, KIND_BOOLEAN, KIND_STRING, KIND_ENUM];
+const ALL_KINDS: [u8; 5] = [
+    KIND_REAL,
+    KIND_INTEGER,
+    KIND_BOOLEAN,
+    KIND_STRING,
+    KIND_ENUM,
+];
 
 fn rule_2(r: &mut Random, draft: &mut Draft, detail: u8) -> Option<()> {
     let index = boundary_output(r, draft, &ALL_KINDS)?;
@@ -304,9 +321,16 @@ fn rule_6(r: &mut Random, draft: &mut Draft, detail: u8) -> Option<()> {
         _ => &[KIND_REAL],
     };
     let fits = |end: u32, kind: u8| {
-        draft.connectors.get(end as usize).is_some_and(|c| c.attrs.kind == kind)
+        draft
+            .connectors
+            .get(end as usize)
+            .is_some_and(|c| c.attrs.kind == kind)
     };
-    let both = |c: &&Connection| kinds.iter().any(|&kind| fits(c.from, kind) && fits(c.to, kind));
+    let both = |c: &&Connection| {
+        kinds
+            .iter()
+            .any(|&kind| fits(c.from, kind) && fits(c.to, kind))
+    };
     let pairs: Vec<Connection> = draft.connections.iter().filter(both).copied().collect();
     let Connection { from, to } = r.any(&pairs)?;
     let (from, to) = (from as usize, to as usize);
@@ -337,7 +361,13 @@ fn conflict_of_texts(r: &mut Random, draft: &mut Draft, from: usize, to: usize, 
 
 fn conflict_of_ends(r: &mut Random, draft: &mut Draft, from: usize, to: usize, bit: u8) {
     let integer = draft.connectors[from].attrs.kind == KIND_INTEGER;
-    let mut value = || if integer { attributes::integer(r) as u64 } else { attributes::real(r) };
+    let mut value = || {
+        if integer {
+            attributes::integer(r) as u64
+        } else {
+            attributes::real(r)
+        }
+    };
     let one = value();
     let other = loop {
         let other = value();
@@ -372,7 +402,11 @@ fn cross_by_filling(r: &mut Random, draft: &mut Draft, from: usize, to: usize) {
             clear_ends(&mut output.attrs);
         }
     }
-    let (one, other) = if r.chance(1, 2) { (from, to) } else { (to, from) };
+    let (one, other) = if r.chance(1, 2) {
+        (from, to)
+    } else {
+        (to, from)
+    };
     set_number(&mut draft.connectors[one].attrs, SET_MIN, min);
     set_number(&mut draft.connectors[other].attrs, SET_MAX, max);
 }

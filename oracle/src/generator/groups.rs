@@ -2,7 +2,7 @@
 
 use crate::format::*;
 use crate::generator::attributes::{self, Pool, crossed, range, set_number, text};
-use crate::image::{BoundaryInput, Connector, Draft};
+use crate::image::{Block, BoundaryInput, Connector, Draft};
 use crate::random::Random;
 
 /// Iris in no order, one a start of another, one empty, one that looks synthetic.
@@ -37,12 +37,16 @@ pub fn groups(r: &mut Random) -> Draft {
         });
     }
     for _ in 0..r.between(0, 3) {
-        let iri = if r.chance(7, 8) { r.pick(&iris) } else { attributes::word(r) };
+        let iri = if r.chance(7, 8) {
+            r.pick(&iris)
+        } else {
+            attributes::word(r)
+        };
         let iri = text(r, &mut draft, iri);
         let attrs = member(r, &mut draft, &pool, kind);
         draft.boundary_inputs.push(BoundaryInput { iri, attrs });
     }
-    draft.blocks.push(crate::image::Block {
+    draft.blocks.push(Block {
         id: 0,
         instance: NO_TEXT,
         inputs: Vec::new(),
@@ -71,7 +75,11 @@ fn member(r: &mut Random, draft: &mut Draft, pool: &Pool, kind: u8) -> RawAttrs 
     }
     // An Integer end alone may cross the other end's default.
     if kind == KIND_INTEGER && r.chance(1, 12) {
-        set_number(&mut attrs, r.pick(&[SET_MIN, SET_MAX]), attributes::integer(r) as u64);
+        set_number(
+            &mut attrs,
+            r.pick(&[SET_MIN, SET_MAX]),
+            attributes::integer(r) as u64,
+        );
     }
     attrs
 }

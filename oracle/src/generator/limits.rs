@@ -64,7 +64,11 @@ fn of_count(r: &mut Random, tag: u8, count: usize) -> Draft {
             let iri = draft.new_text(b"y");
             for _ in 0..count {
                 let attrs = pool.attrs(r, &mut draft, KIND_REAL);
-                draft.boundary_outputs.push(BoundaryOutput { iri, source: 0, attrs });
+                draft.boundary_outputs.push(BoundaryOutput {
+                    iri,
+                    source: 0,
+                    attrs,
+                });
             }
         }
     }
@@ -73,16 +77,17 @@ fn of_count(r: &mut Random, tag: u8, count: usize) -> Draft {
 
 /// One block with a Real Out connected to a Real In.
 fn pair() -> Draft {
-    let mut draft = Draft::default();
-    draft.connectors = vec![connector(0, DIR_OUT), connector(1, DIR_IN)];
-    draft.connections = vec![Connection { from: 0, to: 1 }];
-    draft.blocks = vec![Block {
-        id: 0,
-        instance: NO_TEXT,
-        inputs: vec![1],
-        outputs: vec![0],
-    }];
-    draft
+    Draft {
+        connectors: vec![connector(0, DIR_OUT), connector(1, DIR_IN)],
+        connections: vec![Connection { from: 0, to: 1 }],
+        blocks: vec![Block {
+            id: 0,
+            instance: NO_TEXT,
+            inputs: vec![1],
+            outputs: vec![0],
+        }],
+        ..Draft::default()
+    }
 }
 
 fn connector(id: u32, dir: u8) -> Connector {
@@ -156,7 +161,11 @@ fn longest(r: &mut Random, bytes: usize) -> Draft {
     while left > 0 {
         // Never leave fewer bytes than a field's start.
         let most = FIELD_START + MAX_TEXT;
-        let next = if left > most && left < most + FIELD_START { left - FIELD_START } else { left.min(most) };
+        let next = if left > most && left < most + FIELD_START {
+            left - FIELD_START
+        } else {
+            left.min(most)
+        };
         draft.new_text(&vec![b' '; next.saturating_sub(FIELD_START)]);
         left = left.saturating_sub(next);
     }

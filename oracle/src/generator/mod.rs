@@ -28,6 +28,8 @@ pub enum Family {
     /// A hand-built graph: chains through In connectors, self-loops, ids out of range, repeated
     /// and near 2^32.
     Wild,
+    /// Chains through In connectors whose later clusters meet what earlier ones filled.
+    Chains,
     /// Few clusters whose members declare texts, Reals and Integers out of small pools: equal
     /// bytes under different numbers, empty texts, NaN, infinities, zeros, subnormals, ends
     /// around the defaults.
@@ -47,10 +49,11 @@ pub enum Family {
 }
 
 /// The families with their shares of a hundred.
-pub const FAMILIES: [(Family, usize); 10] = [
+pub const FAMILIES: [(Family, usize); 11] = [
     (Family::Clean, 11),
-    (Family::Faulty, 22),
-    (Family::Wild, 14),
+    (Family::Faulty, 20),
+    (Family::Wild, 12),
+    (Family::Chains, 4),
     (Family::Clusters, 15),
     (Family::Kinds, 6),
     (Family::Groups, 10),
@@ -119,15 +122,18 @@ fn base(r: &mut Random) -> Draft {
 fn draft(r: &mut Random, family: Family) -> Draft {
     match family {
         Family::Wild => wild::graph(r),
+        Family::Chains => clusters::chains(r),
         Family::Clusters => clusters::clusters(r, false),
         Family::Kinds => clusters::clusters(r, true),
         Family::Groups => groups::groups(r),
         Family::Faulty => {
             let size = small(r);
             let mut draft = plant(r, size);
-            // 6.8 shows only where it is the one fault.
-            if r.chance(1, 8) {
-                inject(r, &mut draft, 6, 8);
+            // 6.8 shows only where nothing else is wrong, but beside warnings and other roots.
+            if r.chance(1, 6) {
+                for detail in r.pick(&[&[8][..], &[8, 8], &[8, 8, 8], &[7, 8], &[8, 1], &[8, 6]]) {
+                    inject(r, &mut draft, 6, *detail);
+                }
                 return draft;
             }
             for _ in 0..r.pick(&[1, 1, 1, 2, 3, 4]) {

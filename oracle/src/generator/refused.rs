@@ -62,7 +62,9 @@ fn bad_size(r: &mut Random, base: &Draft) -> Vec<u8> {
 
 /// The fields of one of these tags.
 fn of_tags(fields: &[Vec<u8>], tags: &[u8]) -> Vec<usize> {
-    (0..fields.len()).filter(|&f| tags.contains(&fields[f][0])).collect()
+    (0..fields.len())
+        .filter(|&f| tags.contains(&fields[f][0]))
+        .collect()
 }
 
 fn spoil(r: &mut Random, fields: &mut Vec<Vec<u8>>, number: u8) {
@@ -87,7 +89,7 @@ fn bad_tag(r: &mut Random, fields: &mut Vec<Vec<u8>>) {
     }
 }
 
-fn bad_length(r: &mut Random, fields: &mut Vec<Vec<u8>>) {
+fn bad_length(r: &mut Random, fields: &mut [Vec<u8>]) {
     let at = r.below(fields.len());
     let tag = fields[at][0];
     let contents = fields[at][FIELD_START..].to_vec();
@@ -126,7 +128,12 @@ fn attrs_at(field: &[u8]) -> usize {
 }
 
 fn bad_value(r: &mut Random, fields: &mut [Vec<u8>]) {
-    let tags = [TAG_CONNECTOR, TAG_CONNECTOR, TAG_BOUNDARY_INPUT, TAG_BOUNDARY_OUTPUT];
+    let tags = [
+        TAG_CONNECTOR,
+        TAG_CONNECTOR,
+        TAG_BOUNDARY_INPUT,
+        TAG_BOUNDARY_OUTPUT,
+    ];
     let tag = r.pick(&tags);
     let all = of_tags(fields, &[tag]);
     let Some(at) = r.any(&all).filter(|_| r.chance(7, 8)) else {
@@ -181,7 +188,12 @@ fn bad_text_byte(r: &mut Random, fields: &mut Vec<Vec<u8>>) {
 fn bad_text_number(r: &mut Random, fields: &mut [Vec<u8>]) {
     let texts = of_tags(fields, &[TAG_TEXT]).len() as u16;
     let number = r.pick(&[texts, texts + 1, NO_TEXT, NO_TEXT - 1]);
-    let tags = [TAG_BLOCK, TAG_CONNECTOR, TAG_BOUNDARY_INPUT, TAG_BOUNDARY_OUTPUT];
+    let tags = [
+        TAG_BLOCK,
+        TAG_CONNECTOR,
+        TAG_BOUNDARY_INPUT,
+        TAG_BOUNDARY_OUTPUT,
+    ];
     let all = of_tags(fields, &tags);
     let Some(at) = r.any(&all) else { return };
     let field = &mut fields[at];

@@ -45,7 +45,11 @@ pub fn graph(r: &mut Random) -> Draft {
             block: id(r, blocks, stray),
             dir: r.pick(&[DIR_IN, DIR_OUT]),
             value_type,
-            enum_class: if value_type == KIND_ENUM { r.below(3) as u32 } else { 0 },
+            enum_class: if value_type == KIND_ENUM {
+                r.below(3) as u32
+            } else {
+                0
+            },
             iri,
             attrs,
         });
@@ -66,7 +70,9 @@ pub fn graph(r: &mut Random) -> Draft {
         let iri = some_text(r, &mut draft);
         let source = id(r, connectors, stray);
         let attrs = any_attrs(r, &mut draft, &pool);
-        draft.boundary_outputs.push(BoundaryOutput { iri, source, attrs });
+        draft
+            .boundary_outputs
+            .push(BoundaryOutput { iri, source, attrs });
     }
     draft
 }
@@ -77,7 +83,11 @@ fn connection(r: &mut Random, draft: &Draft, connectors: usize, stray: usize) ->
         Some(last) if r.chance(1, 4) => last.to,
         _ => id(r, connectors, stray),
     };
-    let to = if r.chance(1, 12) { from } else { id(r, connectors, stray) };
+    let to = if r.chance(1, 12) {
+        from
+    } else {
+        id(r, connectors, stray)
+    };
     Connection { from, to }
 }
 
@@ -101,7 +111,11 @@ fn own_id(r: &mut Random, index: usize, count: usize, stray: usize) -> u32 {
 }
 
 fn maybe_text(r: &mut Random, draft: &mut Draft) -> u16 {
-    if r.chance(1, 2) { NO_TEXT } else { some_text(r, draft) }
+    if r.chance(1, 2) {
+        NO_TEXT
+    } else {
+        some_text(r, draft)
+    }
 }
 
 fn some_text(r: &mut Random, draft: &mut Draft) -> u16 {

@@ -4,6 +4,9 @@ mod copy;
 fn main() {
     copy::copy_crate(
         "oce-model",
-        &[("types.rs", "types.rs"), ("determinism.rs", "determinism.rs")],
+        &[
+            ("types.rs", "types.rs"),
+            ("determinism.rs", "determinism.rs"),
+        ],
     );
 }
