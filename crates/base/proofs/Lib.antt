@@ -1,2 +1,4 @@
 pub mod Lists
 pub mod Buffers
+pub mod Members
+pub mod Patches

@@ -3,4 +3,5 @@ pub mod Ranges
 pub mod Values
 pub mod Groups
 pub mod CrossedBounds
+pub mod Counts
 pub mod Computed

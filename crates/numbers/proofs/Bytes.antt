@@ -6,7 +6,7 @@ use native.Mathlib.Numerals.{add-one}
 use native.Mathlib.Omega.{arith}
 use mathlib.Core.Path.{_≡_, refl, sym, ap, _∙_}
 use mathlib.Core.List.{List, [], _∷_, _++_, append-nil}
-use lib.ListN.{length, take, drop, List·getD-append}
+use lib.ListN.{length, take, drop, List·getD-append, List·getD-eq-default}
 use lib.Seq.{getD-append-add, getD-take, getD-drop, drop-cons}
 use Rattle.base.specs.Buffers.{patch}
 use Rattle.base.proofs.Buffers.{patch-patch, patch-inside, patch-before, patch-after}
@@ -151,3 +151,18 @@ patch-halves w s at n e d f =
     let p : patch (patch s at (leBytes w n)) (at + length (leBytes w n)) (leBytes w (n / 256 ^ w)) ≡ patch s at (leBytes w n ++ leBytes w (n / 256 ^ w)) =
     patch-patch s at (leBytes w n) (leBytes w (n / 256 ^ w)) fits in
     e ∙ rw (d, leBytes-low w n, leBytes-add w w n) (rw leBytes-length at p)
+
+-- ---- le past the end, as the readers of any index give it
+
+pub byte-past : (s : List ℕ) (at : ℕ) → length s ≤ at → 0 ≡ byte s at
+byte-past s at h = sym (List·getD-eq-default s 0 h)
+
+-- past the end every number is 0
+pub le-past : (w : ℕ) (s : List ℕ) (at : ℕ) → length s ≤ at → 0 ≡ le w s at
+unfolding le
+le-past zero s at h = refl
+le-past (suc w) s at h = rw (← (byte-past s at h), ← (le-past w s (at + 1) (omega arith)))
+
+-- a number whose upper half is past the end
+pub le-lower : (w : ℕ) (s : List ℕ) (at : ℕ) {a : ℕ} → a ≡ le w s at → length s ≤ at + w → a ≡ le (w + w) s at
+le-lower w s at e h = e ∙ sym (le-add w w s at ∙ rw (← (le-past w s (at + w) h)) (omega arith))

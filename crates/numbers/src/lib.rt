@@ -5,7 +5,7 @@ ghost use Prim.Native.Nat.{_+_, _≤_, _<_};
 ghost use lib.ListN.{length};
 ghost use lib.Ieee.Scale.{finite};
 ghost use Rattle.base.specs.Buffers.{patch};
-ghost use Rattle.numbers.specs.Bytes.{le16, le32, le64, leBytes, signed64, real64};
+ghost use Rattle.numbers.specs.Bytes.{byte, le16, le32, le64, leBytes, signed64, real64};
 
 pub fn wide(x: u8) -> usize
     ensures { λ r. ⌜ (r ≡ x) × (r < 256) ⌝ }
@@ -35,6 +35,58 @@ pub fn read64(s: &[u8], at: usize) -> u64
 {
     let low = read32(s, at);
     let high = read32(s, at + 4);
+    low as u64 + 4294967296 * (high as u64)
+}
+
+// ---- the same of any index: bytes past the end count as 0
+
+pub fn byte_at(s: &[u8], at: usize) -> usize
+    ensures { λ r. ⌜ (r ≡ byte (now (s .entry)) at) × (r < 256) ⌝ }
+{
+    if at < s.len() {
+        return wide(s[at]);
+    }
+    0
+}
+
+pub fn at16(s: &[u8], at: usize) -> usize
+    ensures { λ r. ⌜ (r ≡ le16 (now (s .entry)) at) × (r < 65536) ⌝ }
+{
+    if s.len() <= at {
+        return 0;
+    }
+    byte_at(s, at) + 256 * byte_at(s, at + 1)
+}
+
+pub fn at32(s: &[u8], at: usize) -> usize
+    ensures { λ r. ⌜ (r ≡ le32 (now (s .entry)) at) × (r < 4294967296) ⌝ }
+{
+    if s.len() <= at {
+        return 0;
+    }
+    if 4 <= s.len() - at {
+        return read32(s, at);
+    }
+    if s.len() - at <= 2 {
+        return at16(s, at);
+    }
+    at16(s, at) + 65536 * at16(s, at + 2)
+}
+
+pub fn at64(s: &[u8], at: usize) -> u64
+    ensures { λ r. ⌜ r ≡ le64 (now (s .entry)) at ⌝ }
+{
+    if s.len() <= at {
+        return 0;
+    }
+    if 8 <= s.len() - at {
+        return read64(s, at);
+    }
+    if s.len() - at <= 4 {
+        return at32(s, at) as u64;
+    }
+    let low = at32(s, at);
+    let high = at32(s, at + 4);
     low as u64 + 4294967296 * (high as u64)
 }
 

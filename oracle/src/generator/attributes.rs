@@ -114,6 +114,16 @@ pub fn real(r: &mut Random) -> u64 {
     r.pick(&REALS)
 }
 
+/// NaN or an infinity.
+pub fn odd_real(r: &mut Random) -> u64 {
+    loop {
+        let bits = real(r);
+        if !f64::from_bits(bits).is_finite() {
+            return bits;
+        }
+    }
+}
+
 pub fn integer(r: &mut Random) -> i64 {
     r.pick(&INTEGERS)
 }

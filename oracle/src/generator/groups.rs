@@ -57,13 +57,16 @@ pub fn groups(r: &mut Random) -> Draft {
 
 /// Mostly a range that isn't crossed alone; now and then one that silences its group.
 fn member(r: &mut Random, draft: &mut Draft, pool: &Pool, kind: u8) -> RawAttrs {
+    let other = if kind == KIND_REAL {
+        KIND_INTEGER
+    } else {
+        KIND_REAL
+    };
+    let kind = if r.chance(1, 12) { other } else { kind };
     let mut attrs = RawAttrs::of_kind(kind);
     let (min, max) = match r.below(24) {
         0 => return pool.attrs(r, draft, kind),
-        1 => {
-            let kind = r.pick(&[KIND_REAL, KIND_INTEGER, KIND_BOOLEAN]);
-            return pool.attrs(r, draft, kind);
-        }
+        1 => return RawAttrs::of_kind(r.pick(&[KIND_BOOLEAN, KIND_STRING, KIND_ENUM])),
         2 => crossed(r, kind),
         _ => range(r, kind),
     };
@@ -72,6 +75,14 @@ fn member(r: &mut Random, draft: &mut Draft, pool: &Pool, kind: u8) -> RawAttrs 
     }
     if r.chance(3, 4) {
         set_number(&mut attrs, SET_MAX, max);
+    }
+    // One end that isn't finite takes the whole range away.
+    if kind == KIND_REAL && r.chance(1, 12) {
+        set_number(
+            &mut attrs,
+            r.pick(&[SET_MIN, SET_MAX]),
+            attributes::odd_real(r),
+        );
     }
     // An Integer end alone may cross the other end's default.
     if kind == KIND_INTEGER && r.chance(1, 12) {

@@ -1,7 +1,7 @@
 //! Counts, ports, texts and sizes at and one above each limit.
 
 use crate::format::*;
-use crate::generator::attributes::Pool;
+use crate::generator::attributes::{Pool, set_number, set_text};
 use crate::generator::plant::{Size, plant};
 use crate::image::{Block, BoundaryInput, BoundaryOutput, Connection, Connector, Draft};
 use crate::random::Random;
@@ -48,7 +48,7 @@ fn of_count(r: &mut Random, tag: u8, count: usize) -> Draft {
     match tag {
         TAG_TEXT => draft.texts = vec![Vec::new(); count],
         TAG_BLOCK => add_blocks(&mut draft, count),
-        TAG_CONNECTOR => many_connectors(r, &mut draft, &pool, count),
+        TAG_CONNECTOR => many_connectors(r, &mut draft, count),
         TAG_CONNECTION => many_connections(r, &mut draft, count),
         TAG_EXTERNAL_INPUT => draft.external_inputs = (0..count as u32).collect(),
         TAG_BOUNDARY_INPUT => {
@@ -114,11 +114,15 @@ fn add_blocks(draft: &mut Draft, count: usize) {
 }
 
 /// An Out drives every other connector; some declare what all then take.
-fn many_connectors(r: &mut Random, draft: &mut Draft, pool: &Pool, count: usize) {
+fn many_connectors(r: &mut Random, draft: &mut Draft, count: usize) {
+    let mut declared = RawAttrs::of_kind(KIND_REAL);
+    let unit = draft.new_text(b"K");
+    set_text(&mut declared, SET_UNIT, unit);
+    set_number(&mut declared, SET_MIN, 0.0_f64.to_bits());
     for id in 2..count as u32 {
         let mut c = connector(id, DIR_IN);
         if r.chance(1, 16) {
-            c.attrs = pool.attrs(r, draft, KIND_REAL);
+            c.attrs = declared;
         }
         draft.connectors.push(c);
         draft.connections.push(Connection { from: 0, to: id });

@@ -2,7 +2,7 @@
 //! error, though display units may differ.
 
 use crate::format::*;
-use crate::generator::attributes::{self, range, set_number, set_text, text};
+use crate::generator::attributes::{self, odd_real, range, set_number, set_text, text};
 use crate::image::{Block, BoundaryInput, BoundaryOutput, Connection, Connector, Draft};
 use crate::random::Random;
 
@@ -34,8 +34,9 @@ struct Agreed {
 impl Agreed {
     fn new(r: &mut Random) -> Self {
         let value_type = r.pick(&[0, 0, 0, 0, 0, 0, 1, 1, 2, 3, 4]);
+        // Both ends are odd together: a member may declare one, and the filling brings the other.
         let (min, max) = if value_type == KIND_REAL && r.chance(1, 12) {
-            odd_range(r)
+            (odd_real(r), odd_real(r))
         } else {
             range(r, value_type)
         };
@@ -88,18 +89,6 @@ impl Agreed {
         }
         attrs
     }
-}
-
-/// Ends of which one is NaN or infinite, so that there is no range to cross. Both ends must be
-/// odd: a member may declare one of them, and the filling brings the other.
-fn odd_range(r: &mut Random) -> (u64, u64) {
-    let odd = |r: &mut Random| loop {
-        let bits = attributes::real(r);
-        if !f64::from_bits(bits).is_finite() {
-            return bits;
-        }
-    };
-    (odd(r), odd(r))
 }
 
 /// A plant of this size.

@@ -19,6 +19,7 @@ pub fn image(r: &mut Random, base: Draft) -> Vec<u8> {
         REFUSED_VALUE,
         REFUSED_VALUE,
         REFUSED_TEXT_BYTE,
+        REFUSED_TEXT_BYTE,
         REFUSED_TEXT_NUMBER,
         REFUSED_TEXT_NUMBER,
     ]);

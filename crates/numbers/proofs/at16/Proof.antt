@@ -1,0 +1,20 @@
+-- `numbers::at16` meets its contract: two bytes, 0 past the end.
+-- Assumes nothing.
+use borrow.Author.Needs.{needs}
+use Rattle.numbers.proofs.Bytes.{le-past}
+use Rattle.numbers.specs.Bytes.{le}
+use Rattle.numbers.proofs.at16.Statement.{statement}
+use Rattle.numbers.proofs.at16.Tie as tie
+
+pub at16-spec : {M : Type 1} → statement M
+unfolding le
+at16-spec =
+    tie.close
+    (tie.spec
+    (λ c. search (le-past 2, needs))
+    (λ c κs. search needs)
+    (λ c. search needs)
+    (λ c κs. search needs)
+    (λ c. search needs)
+    (λ c. search needs)
+    (λ c. search (le-past 2, needs)))
