@@ -27,8 +27,8 @@ use Rattle.oce_diag.specs.declared.DiagCode.the-variants.{CrossedBounds}
 use Rattle.crossed_bounds.specs.Ranges.{finiteEnd, endOf, realRange, orDefault, integerRange, rangeOf, crossed, combined}
 use Rattle.crossed_bounds.specs.Values.{ofKind, fits64}
 use Rattle.crossed_bounds.specs.Groups.{Group, members}
-use Rattle.crossed_bounds.specs.CrossedBounds.{memberIri, memberAttrs, memberExternal, groupFaults}
-use Rattle.crossed_bounds.specs.Counts.{oneKind, memberRanges, counts, Common, NoCommon}
+use Rattle.crossed_bounds.specs.CrossedBounds.{memberIri, memberAttrs, memberExternal, groupFaults, memberRanges}
+use Rattle.crossed_bounds.specs.Counts.{oneKind, counts, Common, NoCommon}
 use Rattle.crossed_bounds.specs.declared.Bounds.the-variants.{Real}
 use Rattle.crossed_bounds.specs.declared.Range.{Range}
 use Rattle.crossed_bounds.specs.declared.Range.the-variants.{Absent, Within}

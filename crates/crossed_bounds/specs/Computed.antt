@@ -5,8 +5,9 @@ use Rattle.structural.specs.Computed.{computed as computedBelow}
 use Rattle.crossed_bounds.specs.Ranges.{finiteEnd, endOf, realRange, integerRange, rangeOf, crossedEnds, crossedBounds, crossed, higher, lower, higherInteger, lowerInteger, intersect, uncrossed, takeIn, takeInAll, combined}
 use Rattle.crossed_bounds.specs.Values.{ofKind, ofType, notBelow, notAbove, insideBounds, inside}
 use Rattle.crossed_bounds.specs.Groups.{enter, enterAll, extend, extendAll}
-use Rattle.crossed_bounds.specs.CrossedBounds.{crossedFaults, memberIri, memberAttrs, memberExternal, memberKey, joins, groups, groupFaults, groupsFaults, rule5}
+use Rattle.crossed_bounds.specs.CrossedBounds.{crossedFaults, memberIri, memberAttrs, memberExternal, memberKey, joins, groups, memberRanges, groupFaults, groupsFaults, rule5}
+use Rattle.crossed_bounds.specs.Counts.{plain, oneKind, counts, insideAll}
 
 unfoldable pub computed : ℕ
-unfolding computedBelow finiteEnd endOf realRange integerRange rangeOf crossedEnds crossedBounds crossed higher lower higherInteger lowerInteger intersect uncrossed takeIn takeInAll combined ofKind ofType notBelow notAbove insideBounds inside enter enterAll extend extendAll crossedFaults memberIri memberAttrs memberExternal memberKey joins groups groupFaults groupsFaults rule5
+unfolding computedBelow finiteEnd endOf realRange integerRange rangeOf crossedEnds crossedBounds crossed higher lower higherInteger lowerInteger intersect uncrossed takeIn takeInAll combined ofKind ofType notBelow notAbove insideBounds inside enter enterAll extend extendAll crossedFaults memberIri memberAttrs memberExternal memberKey joins groups memberRanges groupFaults groupsFaults rule5 plain oneKind counts insideAll
 computed = 0

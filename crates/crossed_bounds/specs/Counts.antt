@@ -4,16 +4,16 @@
 use Prim.Native.Nat.{ℕ}
 use mathlib.Core.Path.{_≡_}
 use mathlib.Core.Bool.{Bool, true, false, not, _&&_, _||_}
-use mathlib.Core.List.{List, map}
+use mathlib.Core.List.{List}
 use lib.ListN.{length}
 use lib.Dec.{eqb, ltb}
 use Rattle.base.specs.Lists.{any, all}
 use Rattle.oce_model.specs.Format.{realKind, integerKind}
 use Rattle.oce_model.specs.Model.{Model}
-use Rattle.crossed_bounds.specs.Ranges.{rangeOf, crossedBounds}
+use Rattle.crossed_bounds.specs.Ranges.{crossedBounds}
 use Rattle.crossed_bounds.specs.Values.{Datum, ofKind, inside}
 use Rattle.crossed_bounds.specs.Groups.{Group, members}
-use Rattle.crossed_bounds.specs.CrossedBounds.{memberAttrs, memberExternal}
+use Rattle.crossed_bounds.specs.CrossedBounds.{memberExternal, memberRanges}
 use Rattle.crossed_bounds.specs.declared.Bounds.{Bounds}
 use Rattle.crossed_bounds.specs.declared.Bounds.the-variants.{Real, Integer}
 use Rattle.crossed_bounds.specs.declared.Range.{Range}
@@ -32,9 +32,7 @@ plain k (Within b) = eqb (boundsKind b) k && not (crossedBounds b)
 unfoldable pub oneKind : List Range → Bool
 oneKind rs = all (plain realKind) rs || all (plain integerKind) rs
 
-unfoldable pub memberRanges : Model → Group → List Range
-memberRanges m g = map (λ x. rangeOf m (memberAttrs m x)) (members g)
-
+-- 'A group counts if ..'
 unfoldable pub counts : Model → Group → Bool
 counts m g = any (memberExternal m) (members g) && ltb 1 (length (members g)) && oneKind (memberRanges m g)
 

@@ -17,6 +17,7 @@ use Rattle.oce_diag.specs.declared.DiagCode.the-variants.{CrossedBounds}
 use Rattle.structural.specs.Degrees.{external}
 use Rattle.crossed_bounds.specs.Ranges.{rangeOf, crossed, combined}
 use Rattle.crossed_bounds.specs.Groups.{Group, members, enterAll, extendAll}
+use Rattle.crossed_bounds.specs.declared.Range.{Range}
 
 -- ---- 'Reported per 1 connector, 2 boundary input, 3 boundary output (place: index)': `report`
 unfoldable pub crossedFaults : Model → ℕ → Subject → ℕ → Attrs → List Diagnostic
@@ -49,12 +50,16 @@ groups m =
     extendAll (memberKey m) (enterAll (memberKey m) [] (each (connectorCount m) (λ i. only (joins (connector m i)) i)))
     (tab (boundaryInputCount m) (λ i. connectorCount m + i))
 
+-- the ranges of a group's members
+unfoldable pub memberRanges : Model → Group → List Range
+memberRanges m g = map (λ x. rangeOf m (memberAttrs m x)) (members g)
+
 -- 'A group counts if a member connector's id is external, it has two or more members, all have an uncrossed range and one kind.
 -- It is reported exactly if no value lies in every range (place: members; subject: the first connector's text)'
 unfoldable pub groupFaults : Model → Group → List Diagnostic
 groupFaults m g =
     let n = length (members g) in
-    only (any (memberExternal m) (members g) && ltb 1 n && crossed (combined (map (λ x. rangeOf m (memberAttrs m x)) (members g))))
+    only (any (memberExternal m) (members g) && ltb 1 n && crossed (combined (memberRanges m g)))
     (error CrossedBounds 5 4 (Text (memberIri m (g .first))) n)
 
 unfoldable pub groupsFaults : Model → List Group → List Diagnostic

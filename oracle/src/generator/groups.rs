@@ -11,40 +11,11 @@ const IRIS: [&[u8]; 6] = [b"u", b"T", b"", b"uu", b"connector#0", b"~"];
 pub fn groups(r: &mut Random) -> Draft {
     let mut draft = Draft::default();
     let pool = Pool::new(r);
-    let iris: Vec<&[u8]> = (0..r.between(1, 3)).map(|_| r.pick(&IRIS)).collect();
     let kind = r.pick(&[KIND_REAL, KIND_REAL, KIND_INTEGER]);
-    for id in 0..r.between(1, 8) as u32 {
-        let iri = if r.chance(9, 10) {
-            let iri = r.pick(&iris);
-            text(r, &mut draft, iri)
-        } else {
-            NO_TEXT
-        };
-        let attrs = member(r, &mut draft, &pool, kind);
-        let dir = r.pick(&[DIR_IN, DIR_IN, DIR_IN, DIR_IN, DIR_IN, DIR_OUT]);
-        // Every one in good order is external; some aren't, and some externals aren't Ins.
-        if r.chance(7, 8) {
-            draft.external_inputs.push(id);
-        }
-        draft.connectors.push(Connector {
-            id,
-            block: 0,
-            dir,
-            value_type: kind,
-            enum_class: 0,
-            iri,
-            attrs,
-        });
-    }
-    for _ in 0..r.between(0, 3) {
-        let iri = if r.chance(7, 8) {
-            r.pick(&iris)
-        } else {
-            attributes::word(r)
-        };
-        let iri = text(r, &mut draft, iri);
-        let attrs = member(r, &mut draft, &pool, kind);
-        draft.boundary_inputs.push(BoundaryInput { iri, attrs });
+    if r.chance(1, 4) {
+        empty_groups(r, &mut draft, kind);
+    } else {
+        mixed_groups(r, &mut draft, &pool, kind);
     }
     draft.blocks.push(Block {
         id: 0,
@@ -53,6 +24,80 @@ pub fn groups(r: &mut Random) -> Draft {
         outputs: Vec::new(),
     });
     draft
+}
+
+/// Several groups, each of two members without a common value: their order is that of the iris.
+fn empty_groups(r: &mut Random, draft: &mut Draft, kind: u8) {
+    let start = r.below(IRIS.len());
+    for step in 0..r.between(2, IRIS.len()) {
+        let iri = IRIS[(start + step) % IRIS.len()];
+        let (min, max) = crossed(r, kind);
+        let mut low = RawAttrs::of_kind(kind);
+        set_number(&mut low, SET_MAX, max);
+        let mut high = RawAttrs::of_kind(kind);
+        set_number(&mut high, SET_MIN, min);
+        add_input(r, draft, iri, low);
+        if r.chance(1, 2) {
+            add_input(r, draft, iri, high);
+        } else {
+            let iri = text(r, draft, iri);
+            draft
+                .boundary_inputs
+                .push(BoundaryInput { iri, attrs: high });
+        }
+    }
+}
+
+/// An external In.
+fn add_input(r: &mut Random, draft: &mut Draft, iri: &[u8], attrs: RawAttrs) {
+    let iri = text(r, draft, iri);
+    let id = draft.connectors.len() as u32;
+    draft.external_inputs.push(id);
+    draft
+        .connectors
+        .push(connector(id, DIR_IN, iri, attrs.kind, attrs));
+}
+
+fn connector(id: u32, dir: u8, iri: u16, value_type: u8, attrs: RawAttrs) -> Connector {
+    Connector {
+        id,
+        block: 0,
+        dir,
+        value_type,
+        enum_class: 0,
+        iri,
+        attrs,
+    }
+}
+
+/// Groups of any members, most of them external.
+fn mixed_groups(r: &mut Random, draft: &mut Draft, pool: &Pool, kind: u8) {
+    let iris: Vec<&[u8]> = (0..r.between(1, 3)).map(|_| r.pick(&IRIS)).collect();
+    for id in 0..r.between(1, 8) as u32 {
+        let iri = if r.chance(9, 10) {
+            let iri = r.pick(&iris);
+            text(r, draft, iri)
+        } else {
+            NO_TEXT
+        };
+        let attrs = member(r, draft, pool, kind);
+        let dir = r.pick(&[DIR_IN, DIR_IN, DIR_IN, DIR_IN, DIR_IN, DIR_OUT]);
+        // Some aren't external, and some externals aren't Ins.
+        if r.chance(7, 8) {
+            draft.external_inputs.push(id);
+        }
+        draft.connectors.push(connector(id, dir, iri, kind, attrs));
+    }
+    for _ in 0..r.between(0, 3) {
+        let iri = if r.chance(7, 8) {
+            r.pick(&iris)
+        } else {
+            attributes::word(r)
+        };
+        let iri = text(r, draft, iri);
+        let attrs = member(r, draft, pool, kind);
+        draft.boundary_inputs.push(BoundaryInput { iri, attrs });
+    }
 }
 
 /// Mostly a range that isn't crossed alone; now and then one that silences its group.
