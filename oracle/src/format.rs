@@ -26,6 +26,33 @@ pub const BOUNDARY_INPUT_LEN: usize = 34;
 pub const BOUNDARY_OUTPUT_LEN: usize = 38;
 pub const ATTRS_LEN: usize = 32;
 
+/// Where the parts of a record stand in its contents; ids and iris of boundary records come first.
+pub mod place {
+    pub const HEAD_ZEROS: usize = 2;
+    pub const HEAD_DEFAULT_MIN: usize = 4;
+    pub const HEAD_DEFAULT_MAX: usize = 12;
+    pub const BLOCK_INSTANCE: usize = 4;
+    pub const BLOCK_INPUTS: usize = 6;
+    pub const BLOCK_OUTPUTS: usize = 8;
+    pub const CONNECTOR_BLOCK: usize = 4;
+    pub const CONNECTOR_DIR: usize = 8;
+    pub const CONNECTOR_TYPE: usize = 9;
+    pub const CONNECTOR_ENUM_CLASS: usize = 10;
+    pub const CONNECTOR_IRI: usize = 14;
+    pub const CONNECTION_TO: usize = 4;
+    pub const BOUNDARY_OUTPUT_SOURCE: usize = 2;
+
+    /// Inside the attributes.
+    pub const KIND: usize = 0;
+    pub const SET: usize = 1;
+    pub const QUANTITY: usize = 2;
+    pub const UNIT: usize = 4;
+    pub const DISPLAY_UNIT: usize = 6;
+    pub const MIN: usize = 8;
+    pub const MAX: usize = 16;
+    pub const NOMINAL: usize = 24;
+}
+
 /// A block without ports, and one port id.
 pub const BLOCK_START: usize = 10;
 pub const PORT_LEN: usize = 4;
@@ -87,6 +114,9 @@ pub const REFUSED_TEXT_BYTE: u8 = 7;
 pub const REFUSED_TEXT_NUMBER: u8 = 8;
 pub const LAST_READING_REFUSAL: u8 = REFUSED_TEXT_NUMBER;
 
+/// A diagnostic of the report, its tag and length included.
+pub const DIAGNOSTIC_LEN: usize = 19;
+
 /// Severities and subject kinds of the report.
 pub const SEVERITY_ERROR: u8 = 0;
 pub const SEVERITY_WARNING: u8 = 1;
@@ -126,14 +156,15 @@ impl RawAttrs {
 
     pub fn to_bytes(self) -> [u8; ATTRS_LEN] {
         let mut bytes = [0; ATTRS_LEN];
-        bytes[0] = self.kind;
-        bytes[1] = self.set;
-        bytes[2..4].copy_from_slice(&self.quantity.to_le_bytes());
-        bytes[4..6].copy_from_slice(&self.unit.to_le_bytes());
-        bytes[6..8].copy_from_slice(&self.display_unit.to_le_bytes());
-        bytes[8..16].copy_from_slice(&self.min.to_le_bytes());
-        bytes[16..24].copy_from_slice(&self.max.to_le_bytes());
-        bytes[24..32].copy_from_slice(&self.nominal.to_le_bytes());
+        bytes[place::KIND] = self.kind;
+        bytes[place::SET] = self.set;
+        let mut put = |at: usize, part: &[u8]| bytes[at..at + part.len()].copy_from_slice(part);
+        put(place::QUANTITY, &self.quantity.to_le_bytes());
+        put(place::UNIT, &self.unit.to_le_bytes());
+        put(place::DISPLAY_UNIT, &self.display_unit.to_le_bytes());
+        put(place::MIN, &self.min.to_le_bytes());
+        put(place::MAX, &self.max.to_le_bytes());
+        put(place::NOMINAL, &self.nominal.to_le_bytes());
         bytes
     }
 }

@@ -202,9 +202,13 @@ fn count_fault() -> impl FnMut(usize, &Field<'_>) -> bool {
 fn value_fault(f: &Field<'_>) -> bool {
     let c = f.contents;
     match f.tag {
-        TAG_HEAD => u16_at(c, 0) != VERSION || c[2..4] != [0, 0],
+        TAG_HEAD => u16_at(c, 0) != VERSION || u16_at(c, place::HEAD_ZEROS) != 0,
         TAG_CONNECTOR => {
-            let (dir, value_type, enum_class) = (c[8], c[9], u32_at(c, 10));
+            let (dir, value_type, enum_class) = (
+                c[place::CONNECTOR_DIR],
+                c[place::CONNECTOR_TYPE],
+                u32_at(c, place::CONNECTOR_ENUM_CLASS),
+            );
             dir > DIR_OUT
                 || value_type > LAST_KIND
                 || (value_type != KIND_ENUM && enum_class != 0)
@@ -248,8 +252,8 @@ fn text_number_fault(f: &Field<'_>, texts: usize) -> bool {
             || (a.has(SET_DISPLAY_UNIT) && beyond(a.display_unit))
     };
     match f.tag {
-        TAG_BLOCK => beyond_unless_none(u16_at(f.contents, 4)),
-        TAG_CONNECTOR => beyond_unless_none(u16_at(f.contents, 14)) || in_attrs(),
+        TAG_BLOCK => beyond_unless_none(u16_at(f.contents, place::BLOCK_INSTANCE)),
+        TAG_CONNECTOR => beyond_unless_none(u16_at(f.contents, place::CONNECTOR_IRI)) || in_attrs(),
         TAG_BOUNDARY_INPUT | TAG_BOUNDARY_OUTPUT => beyond(u16_at(f.contents, 0)) || in_attrs(),
         _ => false,
     }
@@ -273,7 +277,7 @@ fn decode(fields: &[Field<'_>]) -> Accepted {
         connections: of_tag(TAG_CONNECTION)
             .map(|f| Connection {
                 from: ConnectorId(u32_at(f.contents, 0)),
-                to: ConnectorId(u32_at(f.contents, 4)),
+                to: ConnectorId(u32_at(f.contents, place::CONNECTION_TO)),
             })
             .collect(),
         external_inputs: of_tag(TAG_EXTERNAL_INPUT)
@@ -288,14 +292,14 @@ fn decode(fields: &[Field<'_>]) -> Accepted {
         boundary_outputs: of_tag(TAG_BOUNDARY_OUTPUT)
             .map(|f| BoundaryOutput {
                 iri: texts.get(u16_at(f.contents, 0)),
-                source: ConnectorId(u32_at(f.contents, 2)),
+                source: ConnectorId(u32_at(f.contents, place::BOUNDARY_OUTPUT_SOURCE)),
                 attrs: attrs(f, &texts),
             })
             .collect(),
     };
     Accepted {
-        default_min: u64_at(head, 4) as i64,
-        default_max: u64_at(head, 12) as i64,
+        default_min: u64_at(head, place::HEAD_DEFAULT_MIN) as i64,
+        default_max: u64_at(head, place::HEAD_DEFAULT_MAX) as i64,
         texts,
         model,
     }
@@ -314,7 +318,7 @@ fn block(f: &Field<'_>, texts: &Texts) -> BlockInstance {
         outputs: ids.collect(),
         params: ParamTable::default(),
         decl_order: 0,
-        instance_iri: texts.get_unless_none(u16_at(c, 4)),
+        instance_iri: texts.get_unless_none(u16_at(c, place::BLOCK_INSTANCE)),
     }
 }
 
@@ -322,18 +326,22 @@ fn connector(f: &Field<'_>, texts: &Texts) -> Connector {
     let c = f.contents;
     Connector {
         id: ConnectorId(u32_at(c, 0)),
-        block: BlockId(u32_at(c, 4)),
-        dir: if c[8] == DIR_OUT { Dir::Out } else { Dir::In },
-        value_type: match c[9] {
+        block: BlockId(u32_at(c, place::CONNECTOR_BLOCK)),
+        dir: if c[place::CONNECTOR_DIR] == DIR_OUT {
+            Dir::Out
+        } else {
+            Dir::In
+        },
+        value_type: match c[place::CONNECTOR_TYPE] {
             KIND_REAL => ValueType::Real,
             KIND_INTEGER => ValueType::Integer,
             KIND_BOOLEAN => ValueType::Boolean,
             KIND_STRING => ValueType::String,
-            _ => ValueType::Enum(EnumClassId(u32_at(c, 10))),
+            _ => ValueType::Enum(EnumClassId(u32_at(c, place::CONNECTOR_ENUM_CLASS))),
         },
         attrs: attrs(f, texts),
         decl_order: 0,
-        iri: texts.get_unless_none(u16_at(c, 14)),
+        iri: texts.get_unless_none(u16_at(c, place::CONNECTOR_IRI)),
     }
 }
 
@@ -411,21 +419,21 @@ pub fn raw_attrs(attrs: &Attrs, texts: &Texts) -> RawAttrs {
 fn attrs_of(f: &Field<'_>) -> RawAttrs {
     let a = &f.contents[f.contents.len() - ATTRS_LEN..];
     RawAttrs {
-        kind: a[0],
-        set: a[1],
-        quantity: u16_at(a, 2),
-        unit: u16_at(a, 4),
-        display_unit: u16_at(a, 6),
-        min: u64_at(a, 8),
-        max: u64_at(a, 16),
-        nominal: u64_at(a, 24),
+        kind: a[place::KIND],
+        set: a[place::SET],
+        quantity: u16_at(a, place::QUANTITY),
+        unit: u16_at(a, place::UNIT),
+        display_unit: u16_at(a, place::DISPLAY_UNIT),
+        min: u64_at(a, place::MIN),
+        max: u64_at(a, place::MAX),
+        nominal: u64_at(a, place::NOMINAL),
     }
 }
 
 fn port_counts(contents: &[u8]) -> (usize, usize) {
     (
-        usize::from(u16_at(contents, 6)),
-        usize::from(u16_at(contents, 8)),
+        usize::from(u16_at(contents, place::BLOCK_INPUTS)),
+        usize::from(u16_at(contents, place::BLOCK_OUTPUTS)),
     )
 }
 

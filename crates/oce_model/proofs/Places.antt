@@ -104,5 +104,5 @@ ordered e at l (and {f = f} {l = r} a b c) d (suc i) zero h k = absurd (omega ar
 ordered e at l (and {f = f} {l = r} a b c) d zero (suc j) h k = mem-start e (endAt f) r c (getD r j d) (getD-mem r j d (omega arith))
 ordered e at l (and {f = f} {l = r} a b c) d (suc i) (suc j) h k = ordered e (endAt f) r c d i j (omega arith) (omega arith)
 
-nth-ordered : (t : ℕ) (s : List ℕ) (i j : ℕ) → i < j → j < length (ofTag t (fields s)) → endAt (nth t s i) ≤ nth t s j .at
+pub nth-ordered : (t : ℕ) (s : List ℕ) (i j : ℕ) → i < j → j < length (ofTag t (fields s)) → endAt (nth t s i) ≤ nth t s j .at
 nth-ordered t s i j h k = ordered (length s) 0 (ofTag t (fields s)) (chain-tag t (length s) 0 (fields s) (chain s)) (fieldAt s 0 0 0) i j h k

@@ -16,8 +16,8 @@ const COUNTED: [u8; 7] = [
     TAG_BOUNDARY_OUTPUT,
 ];
 
-/// As many diagnostics as the program's report buffer of 65,535 bytes holds, 19 bytes each.
-const REPORTED: usize = 3_449;
+/// As many diagnostics as a report buffer holds that is as long as the longest image.
+const REPORTED: usize = MAX_IMAGE / DIAGNOSTIC_LEN;
 
 /// Two cases for each count, then input ports, output ports, text bytes, the shortest and the
 /// longest image, the diagnostics that fill the program's report buffer, each at the limit and
@@ -39,6 +39,11 @@ pub fn case(r: &mut Random, number: usize) -> Vec<u8> {
             _ => with_bad_ports(r, FULL).bytes(),
         },
     }
+}
+
+/// An image with one record of a tag too many.
+pub fn beyond(r: &mut Random, tag: u8) -> Vec<u8> {
+    of_count(r, tag, most(tag) + 1).bytes()
 }
 
 /// A draft with this many records of one tag, in good order where that is possible.

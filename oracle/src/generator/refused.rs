@@ -26,9 +26,9 @@ pub fn image(r: &mut Random, base: Draft) -> Vec<u8> {
     match first {
         REFUSED_SIZE => return bad_size(r, &base),
         REFUSED_COUNT => {
-            // The kinds whose first record beyond costs few bytes: texts, blocks, boundary records.
-            let case = r.pick(&[1, 3, 11, 13]);
-            return limits::case(r, case);
+            // The kinds whose first record beyond costs few bytes.
+            let tag = r.pick(&[TAG_TEXT, TAG_BLOCK, TAG_BOUNDARY_INPUT, TAG_BOUNDARY_OUTPUT]);
+            return limits::beyond(r, tag);
         }
         _ => {}
     }
@@ -104,9 +104,9 @@ fn bad_length(r: &mut Random, fields: &mut [Vec<u8>]) {
             // A port count above 256 whose length fits, or a count that doesn't fit.
             let mut contents = contents[..BLOCK_START].to_vec();
             let count = (MAX_PORTS + 1) as u16;
-            let place = r.pick(&[6, 8]);
-            contents[6..BLOCK_START].fill(0);
-            contents[place..place + 2].copy_from_slice(&count.to_le_bytes());
+            let spot = r.pick(&[place::BLOCK_INPUTS, place::BLOCK_OUTPUTS]);
+            contents[place::BLOCK_INPUTS..].fill(0);
+            contents[spot..spot + 2].copy_from_slice(&count.to_le_bytes());
             if r.chance(1, 2) {
                 contents.resize(BLOCK_START + PORT_LEN * usize::from(count), 0);
             }
@@ -150,26 +150,29 @@ fn bad_value(r: &mut Random, fields: &mut [Vec<u8>]) {
     }
     let attrs = attrs_at(field);
     match r.below(9) {
-        0 if tag == TAG_CONNECTOR => field[FIELD_START + 8] = r.pick(&[2, 255]),
-        1 if tag == TAG_CONNECTOR => field[FIELD_START + 9] = r.pick(&[LAST_KIND + 1, 255]),
-        2 if tag == TAG_CONNECTOR => {
-            field[FIELD_START + 9] = r.pick(&[KIND_REAL, KIND_STRING]);
-            field[FIELD_START + 10 + r.below(4)] = 1;
+        0 if tag == TAG_CONNECTOR => field[FIELD_START + place::CONNECTOR_DIR] = r.pick(&[2, 255]),
+        1 if tag == TAG_CONNECTOR => {
+            field[FIELD_START + place::CONNECTOR_TYPE] = r.pick(&[LAST_KIND + 1, 255])
         }
-        3 => field[attrs] = r.pick(&[LAST_KIND + 1, 255]),
-        4 => field[attrs + 1] = (field[attrs + 1] | UNBOUNDED) & !SET_UNBOUNDED,
+        2 if tag == TAG_CONNECTOR => {
+            field[FIELD_START + place::CONNECTOR_TYPE] = r.pick(&[KIND_REAL, KIND_STRING]);
+            field[FIELD_START + place::CONNECTOR_ENUM_CLASS + r.below(4)] = 1;
+        }
+        3 => field[attrs + place::KIND] = r.pick(&[LAST_KIND + 1, 255]),
+        4 => field[attrs + place::SET] = (field[attrs + place::SET] | UNBOUNDED) & !SET_UNBOUNDED,
         5 => {
-            field[attrs] = KIND_INTEGER;
-            field[attrs + 1] |= r.pick(&[SET_QUANTITY, SET_UNIT, SET_NOMINAL, SET_UNBOUNDED]);
+            field[attrs + place::KIND] = KIND_INTEGER;
+            field[attrs + place::SET] |=
+                r.pick(&[SET_QUANTITY, SET_UNIT, SET_NOMINAL, SET_UNBOUNDED]);
         }
         6 => {
-            field[attrs] = r.pick(&[KIND_BOOLEAN, KIND_STRING, KIND_ENUM]);
-            field[attrs + 1] |= 1 << r.below(8);
+            field[attrs + place::KIND] = r.pick(&[KIND_BOOLEAN, KIND_STRING, KIND_ENUM]);
+            field[attrs + place::SET] |= 1 << r.below(8);
         }
         _ => {
             // A byte behind an unset mark.
-            field[attrs + 1] = 0;
-            field[attrs + r.between(2, ATTRS_LEN - 1)] = r.pick(&[1, 0x80, 255]);
+            field[attrs + place::SET] = 0;
+            field[attrs + r.between(place::QUANTITY, ATTRS_LEN - 1)] = r.pick(&[1, 0x80, 255]);
         }
     }
 }
@@ -179,8 +182,8 @@ fn bad_text_byte(r: &mut Random, fields: &mut Vec<Vec<u8>>) {
     let texts = of_tags(fields, &[TAG_TEXT]);
     match r.any(&texts) {
         Some(at) if fields[at].len() > FIELD_START => {
-            let place = r.between(FIELD_START, fields[at].len() - 1);
-            fields[at][place] = byte;
+            let spot = r.between(FIELD_START, fields[at].len() - 1);
+            fields[at][spot] = byte;
         }
         _ => fields.insert(1, field(TAG_TEXT, &[b'K', byte])),
     }
@@ -200,20 +203,24 @@ fn bad_text_number(r: &mut Random, fields: &mut [Vec<u8>]) {
     let field = &mut fields[at];
     let attrs = attrs_at(field);
     let own = match field[0] {
-        TAG_BLOCK => FIELD_START + 4,
-        TAG_CONNECTOR => FIELD_START + 14,
+        TAG_BLOCK => FIELD_START + place::BLOCK_INSTANCE,
+        TAG_CONNECTOR => FIELD_START + place::CONNECTOR_IRI,
         _ => FIELD_START,
     };
     let has_attrs = field[0] != TAG_BLOCK && field.len() >= FIELD_START + ATTRS_LEN;
-    let place = if has_attrs && r.chance(2, 3) {
-        let (bit, place) = r.pick(&[(SET_QUANTITY, 2), (SET_UNIT, 4), (SET_DISPLAY_UNIT, 6)]);
-        field[attrs] = KIND_REAL;
-        field[attrs + 1] |= bit;
-        attrs + place
+    let spot = if has_attrs && r.chance(2, 3) {
+        let (bit, part) = r.pick(&[
+            (SET_QUANTITY, place::QUANTITY),
+            (SET_UNIT, place::UNIT),
+            (SET_DISPLAY_UNIT, place::DISPLAY_UNIT),
+        ]);
+        field[attrs + place::KIND] = KIND_REAL;
+        field[attrs + place::SET] |= bit;
+        attrs + part
     } else {
         own
     };
-    if field.len() >= place + 2 {
-        field[place..place + 2].copy_from_slice(&number.to_le_bytes());
+    if field.len() >= spot + 2 {
+        field[spot..spot + 2].copy_from_slice(&number.to_le_bytes());
     }
 }

@@ -1,0 +1,194 @@
+-- Demand 3 over the definitions: its statement is Demand3 of specs/Moved, and this is its proof.
+-- Assumes nothing.
+use Prim.Native.Nat.{ℕ, _+_, _<_, _≤_, _^_}
+use mathlib.Core.Path.{_≡_, refl, ap, _∙_}
+use mathlib.Core.Bool.{true, false, not, _&&_, _||_}
+use mathlib.Core.List.{List, []}
+use mathlib.Core.Option.{Option, none, some}
+use lib.ListN.{length, getD}
+use lib.Dec.{eqb, ltb}
+use lib.Signed.{mag}
+use borrow.Author.Tests.{ltb-false, ltb-true}
+use mathlib.Core.Logic.{_≢_}
+use Rattle.oce_model.specs.Attributes.{Attrs, declaredAt}
+use Rattle.oce_model.specs.Image.{fields}
+use Rattle.oce_model.specs.Model.{Model, boundaryInput, boundaryOutput, boundaryOutputCount, connection, connector, connectorAt, connectorCount, modelOf, text}
+use Rattle.oce_model.specs.Refusals.{attrsOffset, badAttrs, badConnector, badContents, badHead, onAttrs, refusal}
+use Rattle.oce_model.specs.declared.Field.{Field}
+use Rattle.oce_diag.specs.Diagnostics.{errors, hasError}
+use Rattle.crossed_bounds.specs.Ranges.{integerRange, rangeOf}
+use Rattle.crossed_bounds.specs.Values.{Datum, inside, ofType}
+use Rattle.unify.specs.Slots.{Slots, slot, slotsOf}
+use Rattle.unify.specs.Unify.{filledSlots}
+use Rattle.outcome.specs.Answer.{reportOf}
+use Rattle.outcome.specs.Filled.{filledOf, withSlots}
+use Rattle.outcome.specs.Report.{finalSlots}
+use Rattle.moved.specs.Moved.{Bytes, Clean, FiniteEnds, Choice, Demand3, Kept, Same, alike, alikeUnits, chosen}
+use Rattle.base.proofs.Lists.{and-parts, or-parts}
+use Rattle.oce_model.proofs.Accepted.{Accepted, accepted, connector-is, connectors-length}
+use Rattle.oce_model.proofs.Fields.{none-mem, nth, nth-mem, nth-tag}
+use Rattle.moved.proofs.Clusters.{from-lt, source-lt, to-lt}
+use Rattle.moved.proofs.FilledImage.{slots-caps, slots-places}
+use Rattle.moved.proofs.Flow.{Chosen, a-choice, filled, input-gets, out-units, output-gets, wire-units}
+use Rattle.moved.proofs.Kept.{Kept·refl, filledTo-later}
+use Rattle.moved.proofs.OneDetail.{Roomy}
+use Rattle.moved.proofs.Refilled.{Rewritten, connector-attrs, out-attrs, rewritten, same-model}
+use Rattle.moved.proofs.Regions.{connectorSlots, outputSlots}
+use Rattle.moved.proofs.SomeValue.{pick, signed-mag}
+use Rattle.moved.proofs.Stars.{Quiet, Stars, quiet, stars}
+use Rattle.moved.proofs.WellFormed.{filled-well, textCount, well-plain}
+use Rattle.moved.proofs.Widths.{AllCaps, image-roomy, slot-connector, slot-out}
+
+-- ---- over a model f that is m with the attributes of rule 6's slots
+
+pub record Filled (m f : Model) : Type 0 where
+  pub same : Same m f
+  pub connectors : (i : ℕ) → i < connectorCount m → connector f i .attrs ≡ slot (filled m) i
+  pub outputs : (i : ℕ) → i < boundaryOutputCount m → boundaryOutput f i .attrs ≡ slot (filled m) (connectorCount m + i)
+
+range-same : (m f : Model) → Same m f → (a : Attrs) → rangeOf f a ≡ rangeOf m a
+unfolding rangeOf integerRange
+range-same m f s a = rw (s .integerMin, s .integerMax)
+
+text-same : (m f : Model) → Same m f → (u : ℕ) → text f u ≡ text m u
+unfolding text
+text-same m f s u = ap (λ ts. getD ts u []) (s .texts)
+
+alike-same : (m f : Model) → Same m f → (x y : Option ℕ) → alike f x y ≡ alike m x y
+alike-same m f s none none = refl
+alike-same m f s none (some v) = refl
+alike-same m f s (some u) none = refl
+alike-same m f s (some u) (some v) = rw (text-same m f s u, text-same m f s v)
+
+units-same : (m f : Model) → Same m f → (a b : Attrs) → alikeUnits f a b ≡ alikeUnits m a b
+unfolding alikeUnits
+units-same m f s a b = rw (alike-same m f s (declaredAt a 1) (declaredAt b 1), alike-same m f s (declaredAt a 0) (declaredAt b 0))
+
+module _ (m f : Model) (is : Filled m f) where
+  kept-connectors : (i : ℕ) → i < connectorCount m → Kept (connector m i .attrs) (connector f i .attrs)
+  kept-connectors i l = rw (is .connectors i l, ← (slot-connector m i l)) (filledTo-later m (connectorCount m) .at i)
+
+  kept-outs : (i : ℕ) → i < boundaryOutputCount m → Kept (boundaryOutput m i .attrs) (boundaryOutput f i .attrs)
+  kept-outs i l = rw (is .outputs i l, ← (slot-out m i)) (filledTo-later m (connectorCount m) .at (connectorCount m + i))
+
+  kept-ins : (i : ℕ) → Kept (boundaryInput m i .attrs) (boundaryInput f i .attrs)
+  unfolding boundaryInput
+  kept-ins i = rw (is .same .boundaryInputs) (Kept·refl _)
+
+  -- the range and the texts of a connector and of a boundary output
+  range-at : (i : ℕ) → i < connectorCount m → rangeOf f (connector f i .attrs) ≡ rangeOf m (slot (filled m) i)
+  range-at i l = range-same m f (is .same) (connector f i .attrs) ∙ ap (rangeOf m) (is .connectors i l)
+
+  range-out : (i : ℕ) → i < boundaryOutputCount m → rangeOf f (boundaryOutput f i .attrs) ≡ rangeOf m (slot (filled m) (connectorCount m + i))
+  range-out i l = range-same m f (is .same) (boundaryOutput f i .attrs) ∙ ap (rangeOf m) (is .outputs i l)
+
+chosen-lt : (m : Model) (i : ℕ) → chosen m i ≡ true → i < connectorCount m
+unfolding chosen
+chosen-lt m i c = ltb-true _ _ (and-parts _ _ c .0)
+
+-- ---- the model of an accepted image
+
+type-ok : (s : List ℕ) (f : Field) → f .tag ≡ 4 → badContents s f ≡ false → connectorAt s (f .at) .valueType ≤ 4
+unfolding badContents badConnector
+type-ok s f e h =
+    let a = eqb (f .tag) 1 && badHead s (f .at) in
+    let d = connectorAt s (f .at) in
+    let c = ltb 1 (d .dir) || ltb 4 (d .valueType) || (not (eqb (d .valueType) 4) && not (eqb (d .enumClass) 0)) in
+    let g = or-parts a (eqb (f .tag) 4 && c) (or-parts (a || (eqb (f .tag) 4 && c)) (onAttrs s badAttrs (attrsOffset f)) h .0) .1 in
+    let k : c ≡ false = rw e at g in
+    ltb-false 4 (d .valueType) (or-parts (ltb 1 (d .dir)) _ (or-parts _ _ k .0) .1)
+
+types : (s : List ℕ) → Accepted s → (i : ℕ) → i < connectorCount (modelOf s) → connector (modelOf s) i .valueType ≤ 4
+types s acc i l =
+    let k = rw (connectors-length s) at l in
+    rw (connector-is s i l) (type-ok s (nth 4 s i) (nth-tag 4 s i k) (none-mem (badContents s) (fields s) (acc .contents) (nth 4 s i) (nth-mem 4 s i k)))
+
+low-end : (s : List ℕ) → mag (modelOf s .integerMin) < 2 ^ 63
+unfolding modelOf
+low-end s = signed-mag _
+
+-- without errors the filled image is the image with rule 6's slots
+filled-is : (s : List ℕ) → hasError (reportOf s) ≡ false → filledOf s ≡ withSlots s (filled (modelOf s))
+unfolding filledOf finalSlots filledSlots reportOf
+filled-is s h = rw h
+
+-- and where there is no error, its model is the image's with rule 6's slots
+pub again : (s : List ℕ) → Bytes s → refusal s ≡ none → hasError (reportOf s) ≡ false → Filled (modelOf s) (modelOf (filledOf s))
+again s bytes ok clean = rw (filled-is s clean) (record { same = same-model s t σ acc w; connectors = connector-attrs s t σ acc w places caps; outputs = out-attrs s t σ acc w places caps })
+  where
+    acc : Accepted s
+    acc = accepted s ok
+
+    σ : Slots
+    σ = filled (modelOf s)
+
+    t : List ℕ
+    t = withSlots s σ
+
+    w : Rewritten s t σ
+    w = rewritten s acc σ
+
+    caps : AllCaps σ
+    caps = slots-caps s bytes (connectorCount (modelOf s))
+
+    places : (j : ℕ) → j < connectorSlots s + outputSlots s → length (slot σ j .nums) ≡ 6
+    places = slots-places s (connectorCount (modelOf s))
+
+pub demand3 : Demand3
+unfolding reportOf
+demand3 s c = record {
+  same = is .same;
+  keptConnectors = kept-connectors m f is;
+  keptInputs = λ i l. kept-ins m f is i;
+  keptOutputs = kept-outs m f is;
+  inputs = λ x choice i l n.
+      let p = input-gets m st qu (c .kinds) room x (chose x choice) i l n in
+      record { value = p .0; one = p .1; typed = p .2; ranged = rw (range-at m f is i l) (p .3) };
+  outputs = λ x choice i l.
+      let p = output-gets m st qu (c .kinds) room x (chose x choice) i l in
+      record { value = p .0; one = p .1; typed = p .2; ranged = rw (range-out m f is i l) (p .3) };
+  unitsIn = λ k l.
+      rw (is .connectors (connection m k .to) (to-lt m st k l), is .connectors (connection m k .from) (from-lt m st k l), units-same m f (is .same) (slot (filled m) (connection m k .to)) (slot (filled m) (connection m k .from)))
+      (wire-units m st qu (c .kinds) room plain k l);
+  unitsOut = λ i l.
+      rw (is .outputs i l, is .connectors (boundaryOutput m i .source) (source-lt m st i l), units-same m f (is .same) (slot (filled m) (connectorCount m + i)) (slot (filled m) (boundaryOutput m i .source)))
+      (out-units m st qu (c .kinds) room plain i l);
+  exists = (x₀, λ i h. given x₀ i h (a-choice m st qu (c .kinds) room (types s acc) (low-end s) i h));
+}
+  where
+    m : Model
+    m = modelOf s
+
+    f : Model
+    f = modelOf (filledOf s)
+
+    is : Filled m f
+    is = again s (c .bytes) (c .accepted) (c .noError)
+
+    acc : Accepted s
+    acc = accepted s (c .accepted)
+
+    st : Stars m
+    st = stars m (c .noError)
+
+    qu : Quiet m
+    qu = quiet m (c .noError)
+
+    room : Roomy (slotsOf m)
+    room = image-roomy s
+
+    plain : (i : ℕ) → slot (filled m) i .kind ≢ 0 → (declaredAt (slot (filled m) i) 0 ≡ none) × (declaredAt (slot (filled m) i) 1 ≡ none)
+    plain i = well-plain (textCount s) (slot (filled m) i) (filled-well s acc (connectorCount m) .at i)
+
+    chose : (x : ℕ → Datum) → Choice m f x → (i : ℕ) → chosen m i ≡ true → Chosen m st qu (c .kinds) room x i
+    chose x choice i h = let p = choice i h in record { typed = p .0; ranged = rw (range-at m f is i (chosen-lt m i h)) at (p .1) }
+
+    given : (x : ℕ → Datum) (i : ℕ) → chosen m i ≡ true → Chosen m st qu (c .kinds) room x i → (ofType (connector m i) (x i) ≡ true) × (inside (rangeOf f (connector f i .attrs)) (x i) ≡ true)
+    given x i h p = (p .typed, rw (range-at m f is i (chosen-lt m i h)) (p .ranged))
+
+    x₀ : ℕ → Datum
+    x₀ = λ i. pick (connector m i .valueType) (connector m i .enumClass) (rangeOf m (slot (filled m) i))
+
+-- The demand's last part as it is worded, where every Real end set in the image is finite: a choice of values exists. It needs no such premise
+pub exists-finite : (s : List ℕ) → Clean s → FiniteEnds (modelOf s) → (x : ℕ → Datum) × Choice (modelOf s) (modelOf (filledOf s)) x
+exists-finite s c h = demand3 s c .exists

@@ -1,0 +1,151 @@
+-- Rule 6 changes no declared attribute: what a slot declares in the image, it declares likewise after every root.
+-- Assumes nothing.
+use Prim.Native.Nat.{ℕ, zero, suc, _+_, _<_, _≤_}
+use native.Mathlib.Decide.{ℕ-discrete, decLt}
+use native.Mathlib.Omega.{arith}
+use mathlib.Core.Path.{_≡_, refl, ap, _∙_, sym}
+use mathlib.Core.Logic.{_≢_}
+use mathlib.Core.Bool.{Bool, true, false, cond}
+use mathlib.Core.List.{List, [], _∷_}
+use mathlib.Core.Option.{Option, none, some, Option·none-ne-some, Option·some-ne-none}
+use lib.ListN.{length, getD, set}
+use lib.Seq.{getD-set-same, getD-set-other, set-out}
+use lib.Dec.{eqb}
+use Rattle.base.specs.Lists.{all, steps}
+use Rattle.numbers.specs.Bytes.{bit}
+use Rattle.oce_model.specs.Attributes.{Attrs, declareAt, declaredAt, marked, noAttrs, num}
+use Rattle.oce_model.specs.Model.{Model}
+use Rattle.unify.specs.Clusters.{driven, isRoot}
+use Rattle.unify.specs.Slots.{Slots, agree, bitOf, kindOf, put, putAt, slot, slotsOf}
+use Rattle.unify.specs.Unify.{declared, fill, fillRoot, filledTo, fills, putAll, settle}
+use Rattle.moved.specs.Moved.{Kept}
+use Rattle.numbers.proofs.Bits.{bit-other, bit-same}
+
+pub Kept·refl : (a : Attrs) → Kept a a
+Kept·refl a = record { kind = refl; unbounded = (refl, refl); vals = λ p v h. h }
+
+pub Kept·trans : {a b c : Attrs} → Kept a b → Kept b c → Kept a c
+Kept·trans h k = record {
+  kind = k .kind ∙ h .kind;
+  unbounded = (k .unbounded .0 ∙ h .unbounded .0, k .unbounded .1 ∙ h .unbounded .1);
+  vals = λ p v e. k .vals p v (h .vals p v e);
+}
+
+-- a place that declares nothing has its bit clear
+pub unmarked : (a : Attrs) (p : ℕ) → declaredAt a p ≡ none → bit (a .marks) p ≡ false
+unfolding declaredAt
+unmarked a p h = arm (bit (a .marks) p) h
+  where
+    arm : (b : Bool) → marked b (num a p) ≡ none → b ≡ false
+    arm true h = absurd (Option·some-ne-none (num a p) h)
+    arm false h = refl
+
+pub declareAt-same : (a : Attrs) (p v : ℕ) → declaredAt a p ≡ none → p < length (a .nums) → declaredAt (declareAt a p v) p ≡ some v
+unfolding declaredAt declareAt
+declareAt-same a p v h l = rw (bit-same (a .marks) p (unmarked a p h)) (ap {B = Option ℕ} some (getD-set-same (a .nums) p v 0 l))
+
+pub declareAt-other : (a : Attrs) (p q v : ℕ) → declaredAt a p ≡ none → q ≢ p → declaredAt (declareAt a p v) q ≡ declaredAt a q
+unfolding declaredAt declareAt
+declareAt-other a p q v h n = rw (bit-other (a .marks) p q (unmarked a p h) n, getD-set-other (a .nums) p q v 0 n)
+
+pub bitOf-lt : (d : ℕ) → bitOf d < 6
+unfolding bitOf
+bitOf-lt zero = omega arith
+bitOf-lt (suc zero) = omega arith
+bitOf-lt (suc (suc zero)) = omega arith
+bitOf-lt (suc (suc (suc zero))) = omega arith
+bitOf-lt (suc (suc (suc (suc zero)))) = omega arith
+bitOf-lt (suc (suc (suc (suc (suc zero))))) = omega arith
+bitOf-lt (suc (suc (suc (suc (suc (suc zero)))))) = omega arith
+bitOf-lt (suc (suc (suc (suc (suc (suc (suc zero))))))) = omega arith
+bitOf-lt (suc (suc (suc (suc (suc (suc (suc (suc n)))))))) = omega arith
+
+pub declareAt-kind : (a : Attrs) (p v : ℕ) → declareAt a p v .kind ≡ a .kind
+unfolding declareAt
+declareAt-kind a p v = refl
+
+declareAt-bit : (a : Attrs) (p q v : ℕ) → declaredAt a p ≡ none → q ≢ p → bit (declareAt a p v .marks) q ≡ bit (a .marks) q
+unfolding declareAt
+declareAt-bit a p q v h n = bit-other (a .marks) p q (unmarked a p h) n
+
+putAt-kept : (p v : ℕ) (a : Attrs) → p < 6 → (o : Option ℕ) → declaredAt a p ≡ o → Kept a (putAt p v a o)
+putAt-kept p v a l (some u) e = Kept·refl a
+putAt-kept p v a l none e = record {
+  kind = with-kind;
+  unbounded = (upper 6 (omega arith), upper 7 (omega arith));
+  vals = λ q u h. other q u h (ℕ-discrete q p);
+}
+  where
+    with-kind : declareAt a p v .kind ≡ a .kind
+    with-kind = declareAt-kind a p v
+
+    upper : (q : ℕ) → 6 ≤ q → bit (declareAt a p v .marks) q ≡ bit (a .marks) q
+    upper q k = declareAt-bit a p q v e (omega arith)
+
+    other : (q u : ℕ) → declaredAt a q ≡ some u → Dec (q ≡ p) → declaredAt (declareAt a p v) q ≡ some u
+    other q u h (yes i) = absurd (Option·none-ne-some u (sym e ∙ ap (declaredAt a) (sym i) ∙ h))
+    other q u h (no n) = declareAt-other a p q v e n ∙ h
+
+cond-kept : (t : Bool) (a b c : Attrs) → Kept a b → Kept a c → Kept a (cond t b c)
+cond-kept true a b c h k = h
+cond-kept false a b c h k = k
+
+pub put-kept : (d v : ℕ) (a : Attrs) → Kept a (put d v a)
+unfolding put
+put-kept d v a = cond-kept (eqb (a .kind) (kindOf d)) a _ a (putAt-kept (bitOf d) v a (bitOf-lt d) (declaredAt a (bitOf d)) refl) (Kept·refl a)
+
+-- ---- each slot keeps what it declares
+
+pub record Later (σ τ : Slots) : Type 0 where
+  pub at : (i : ℕ) → Kept (slot σ i) (slot τ i)
+
+pub later-refl : (σ : Slots) → Later σ σ
+later-refl σ = record { at = λ i. Kept·refl (slot σ i) }
+
+pub later-trans : {σ τ υ : Slots} → Later σ τ → Later τ υ → Later σ υ
+later-trans h k = record { at = λ i. Kept·trans (h .at i) (k .at i) }
+
+set-later : (σ : Slots) (j : ℕ) (x : Attrs) → Kept (slot σ j) x → Later σ (set σ j x)
+unfolding slot
+set-later σ j x h = record { at = λ i. same i (ℕ-discrete i j) (decLt j (length σ)) }
+  where
+    same : (i : ℕ) → Dec (i ≡ j) → Dec (j < length σ) → Kept (getD σ i noAttrs) (getD (set σ j x) i noAttrs)
+    same i (no n) d = rw (getD-set-other σ j i x noAttrs n) (Kept·refl _)
+    same i (yes e) (yes l) = rw (e, getD-set-same σ j x noAttrs l) h
+    same i (yes e) (no l) = rw (set-out σ j x (omega arith)) (Kept·refl _)
+
+pub putAll-later : (d v : ℕ) (js : List ℕ) (σ : Slots) → Later σ (putAll d v js σ)
+unfolding putAll
+putAll-later d v [] σ = later-refl σ
+putAll-later d v (j ∷ js) σ = later-trans (set-later σ j _ (put-kept d v (slot σ j))) (putAll-later d v js _)
+
+settle-later : (m : Model) (d : ℕ) (vs js : List ℕ) (σ : Slots) → Later σ (settle m d vs js σ)
+unfolding settle
+settle-later m d [] js σ = later-refl σ
+settle-later m d (v ∷ vs) js σ = arm (all (agree m d v) vs)
+  where
+    arm : (b : Bool) → Later σ (cond b (putAll d v js σ) σ)
+    arm true = putAll-later d v js σ
+    arm false = later-refl σ
+
+pub fill-later : (m : Model) (js : List ℕ) (d : ℕ) (σ : Slots) → Later σ (fill m js d σ)
+unfolding fill
+fill-later m js d σ = settle-later m d (declared d σ js) js σ
+
+-- what each step keeps, all steps keep
+steps-later : (f : ℕ → Slots → Slots) → ((i : ℕ) (σ : Slots) → Later σ (f i σ)) → (n : ℕ) (σ : Slots) → Later σ (steps n f σ)
+unfolding steps
+steps-later f h zero σ = later-refl σ
+steps-later f h (suc n) σ = later-trans (steps-later f h n σ) (h n (steps n f σ))
+
+fillRoot-later : (m : Model) (r : ℕ) (σ : Slots) → Later σ (fillRoot m r σ)
+unfolding fillRoot fills
+fillRoot-later m r σ = arm (isRoot m r)
+  where
+    arm : (b : Bool) → Later σ (cond b (steps 6 (λ d τ. fill m (r ∷ driven m r) (d + 1) τ) σ) σ)
+    arm true = steps-later (λ d τ. fill m (r ∷ driven m r) (d + 1) τ) (λ d τ. fill-later m (r ∷ driven m r) (d + 1) τ) 6 σ
+    arm false = later-refl σ
+
+pub filledTo-later : (m : Model) (n : ℕ) → Later (slotsOf m) (filledTo m n)
+unfolding filledTo
+filledTo-later m n = steps-later (fillRoot m) (fillRoot-later m) n (slotsOf m)

@@ -1,0 +1,29 @@
+-- Demand 3, in steps. Each file takes what the ones before it give; Demand has the theorem, Moved what follows for the two buffers of a checking call.
+-- what no error says of the model, and that its clusters share no slot
+pub mod NoError
+pub mod Stars
+pub mod Clusters
+-- rule 6: nothing declared changes, one detail of one cluster, only members are touched, all members end with one key
+pub mod Kept
+pub mod OneDetail
+pub mod Untouched
+pub mod Settled
+-- what rule 6 keeps of the attributes of an accepted image: the widths of their numbers, and what refusals 6 and 8 ask
+pub mod Invariants
+pub mod Widths
+pub mod WellFormed
+-- one range and alike texts; a value inside a range; values along connections
+pub mod SameRange
+pub mod SomeValue
+pub mod Flow
+-- the filled bytes: where slots stand, the model read again, accepted again, undone with an error; then of every accepted image
+pub mod Regions
+pub mod Refilled
+pub mod AcceptedAgain
+pub mod Undone
+pub mod FilledImage
+-- the theorem, of models and of buffers
+pub mod Demand
+pub mod Moved
+-- a model that meets its premises, and one that shows that the premise on kinds is needed
+pub mod Witness

@@ -1,0 +1,53 @@
+-- Lists of diagnostics without an error: then none of their parts has one, and no error was asked for.
+-- Assumes nothing.
+use Prim.Native.Nat.{ℕ, zero, suc, _<_}
+use native.Mathlib.Decide.{ℕ-discrete}
+use native.Mathlib.Omega.{arith}
+use mathlib.Core.Path.{_≡_, refl, sym, ap, _∙_}
+use mathlib.Core.Bool.{Bool, true, false, cond, _||_, true≢false}
+use mathlib.Core.List.{List, [], _∷_, _++_}
+use lib.ListN.{length}
+use Rattle.base.specs.Lists.{each, any, keep, only}
+use Rattle.base.proofs.Lists.{or-parts, any-append}
+use Rattle.oce_diag.specs.Diagnostics.{diagnostic, error, isError, hasError, errors}
+use Rattle.oce_diag.specs.declared.Diagnostic.{Diagnostic}
+use Rattle.oce_diag.specs.declared.DiagCode.{DiagCode}
+use Rattle.oce_diag.specs.declared.Subject.{Subject}
+
+pub clean-append : (xs ys : List Diagnostic) → hasError (xs ++ ys) ≡ false → (hasError xs ≡ false) × (hasError ys ≡ false)
+unfolding hasError
+clean-append xs ys h = or-parts (any isError xs) (any isError ys) (sym (any-append isError xs ys) ∙ h)
+
+pub clean-each : (n : ℕ) (f : ℕ → List Diagnostic) → hasError (each n f) ≡ false → (i : ℕ) → i < n → hasError (f i) ≡ false
+unfolding each
+clean-each zero f h i l = absurd (omega arith)
+clean-each (suc n) f h i l = arm (ℕ-discrete i n) (clean-append (each n f) (f n) h) (clean-each n f)
+  where
+    arm : Dec (i ≡ n) → (hasError (each n f) ≡ false) × (hasError (f n) ≡ false) → (hasError (each n f) ≡ false → (i : ℕ) → i < n → hasError (f i) ≡ false) → hasError (f i) ≡ false
+    arm (yes e) p ih = ap (λ j. hasError (f j)) e ∙ p .1
+    arm (no m) p ih = ih (p .0) i (omega arith)
+
+pub clean-only : (b : Bool) (code : DiagCode) (rule detail : ℕ) (s : Subject) (place : ℕ) → hasError (only b (error code rule detail s place)) ≡ false → b ≡ false
+unfolding hasError any diagnostic
+clean-only true c r d s p h = absurd (true≢false h)
+clean-only false c r d s p h = refl
+
+-- counted
+
+pub no-errors : (ds : List Diagnostic) → errors ds ≡ 0 → hasError ds ≡ false
+unfolding errors hasError keep any
+no-errors [] h = refl
+no-errors (d ∷ ds) h = arm (isError d) h (no-errors ds)
+  where
+    arm : (b : Bool) → length (cond b (d ∷ keep isError ds) (keep isError ds)) ≡ 0 → (length (keep isError ds) ≡ 0 → hasError ds ≡ false) → (b || hasError ds) ≡ false
+    arm true h ih = absurd (omega arith)
+    arm false h ih = ih h
+
+pub some-error : (ds : List Diagnostic) → 0 < errors ds → hasError ds ≡ true
+unfolding errors hasError keep any
+some-error [] l = absurd (omega arith)
+some-error (d ∷ ds) l = arm (isError d) l (some-error ds)
+  where
+    arm : (b : Bool) → 0 < length (cond b (d ∷ keep isError ds) (keep isError ds)) → (0 < length (keep isError ds) → hasError ds ≡ true) → (b || hasError ds) ≡ true
+    arm true h ih = refl
+    arm false h ih = ih h

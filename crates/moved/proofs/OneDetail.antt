@@ -1,0 +1,182 @@
+-- Rule 6, one detail of one cluster: where nothing conflicts, its members come out with one key.
+-- Assumes nothing.
+use Prim.Native.Nat.{ℕ, _<_, _≤_}
+use native.Mathlib.Decide.{ℕ-discrete, decLt}
+use native.Mathlib.Omega.{arith}
+use mathlib.Core.Path.{_≡_, refl, ap, _∙_, sym}
+use mathlib.Core.Logic.{_⊎_, inl, inr}
+use mathlib.Core.Bool.{Bool, true, false, cond, not}
+use mathlib.Core.List.{List, [], _∷_, List·Memᴰ, List·Memᴰ·not-nil, List·Memᴰ·cases-cons, List·Memᴰ·head, List·Memᴰ·tail}
+use mathlib.Core.Option.{Option, none, some, Option·getD, Option·map, Option·none-ne-some}
+use lib.ListN.{length, getD, set, length-set}
+use lib.Seq.{getD-set-same, getD-set-other, set-out, lt-length-set}
+use lib.Dec.{eqb}
+use borrow.Author.Tests.{eq-eqb, not-false}
+use Rattle.base.specs.Lists.{all}
+use Rattle.oce_model.specs.Attributes.{Attrs, declareAt, declaredAt, noAttrs}
+use Rattle.oce_model.specs.Model.{Model}
+use Rattle.unify.specs.Slots.{Slots, agree, bitOf, key, kindOf, put, putAt, slot, value}
+use Rattle.unify.specs.Unify.{conflict, cons?, declared, fill, putAll, settle}
+use Rattle.moved.specs.Moved.{Kept}
+use Rattle.base.proofs.Lists.{same-sound}
+use Rattle.base.proofs.Members.{all-mem}
+use Rattle.moved.proofs.Kept.{bitOf-lt, declareAt-kind, declareAt-same, put-kept, putAll-later}
+
+slot-set : (σ : Slots) (j : ℕ) (x : Attrs) → j < length σ → slot (set σ j x) j ≡ x
+unfolding slot
+slot-set σ j x l = getD-set-same σ j x noAttrs l
+
+-- every slot has its six places
+pub record Roomy (σ : Slots) : Type 0 where
+  pub at : (i : ℕ) → i < length σ → 6 ≤ length (slot σ i .nums)
+
+-- slot j can have the detail d
+pub record Open (d : ℕ) (σ : Slots) (j : ℕ) : Type 0 where
+  pub inside : j < length σ
+  pub kind : slot σ j .kind ≡ kindOf d
+
+-- put leaves what a member would have: its own value, or v
+module _ (d v : ℕ) where
+  own : Attrs → ℕ
+  own a = Option·getD (value d a) v
+
+  own-put : (a : Attrs) → 6 ≤ length (a .nums) → own (put d v a) ≡ own a
+  unfolding own put value declaredAt
+  own-put a l = arm (eqb (a .kind) (kindOf d)) refl (declaredAt a (bitOf d)) refl
+    where
+      p : ℕ
+      p = bitOf d
+
+      arm : (b : Bool) → eqb (a .kind) (kindOf d) ≡ b → (o : Option ℕ) → declaredAt a p ≡ o
+          → Option·getD (value d (cond b (putAt p v a o) a)) v ≡ Option·getD (cond b o none) v
+      arm false e o h = rw e
+      arm true e (some u) h = rw (e, h)
+      arm true e none h = rw (declareAt-kind a p v, e, declareAt-same a p v h (omega (arith, bitOf-lt d)))
+
+  kind-put : (a : Attrs) → put d v a .kind ≡ a .kind
+  kind-put a = put-kept d v a .kind
+
+  pub room-put : (a : Attrs) → length (put d v a .nums) ≡ length (a .nums)
+  unfolding put declareAt
+  room-put a = arm (eqb (a .kind) (kindOf d)) (declaredAt a (bitOf d))
+    where
+      arm : (b : Bool) (o : Option ℕ) → length (cond b (putAt (bitOf d) v a o) a .nums) ≡ length (a .nums)
+      arm false o = refl
+      arm true none = length-set (a .nums) (bitOf d) v
+      arm true (some u) = refl
+
+  -- what `put` does not change, `putAll` does not
+  module _ {X : Type 0} (g : Attrs → X) (fixed : (a : Attrs) → 6 ≤ length (a .nums) → g (put d v a) ≡ g a) where
+    fixed-set : (σ : Slots) → Roomy σ → (j i : ℕ) → g (slot (set σ j (put d v (slot σ j))) i) ≡ g (slot σ i)
+    unfolding slot
+    fixed-set σ ρ j i = arm (ℕ-discrete i j) (decLt j (length σ))
+      where
+        x : Attrs
+        x = put d v (getD σ j noAttrs)
+
+        arm : Dec (i ≡ j) → Dec (j < length σ) → g (getD (set σ j x) i noAttrs) ≡ g (getD σ i noAttrs)
+        arm (no n) l = ap g (getD-set-other σ j i x noAttrs n)
+        arm (yes e) (yes l) = rw (e, getD-set-same σ j x noAttrs l) (fixed (getD σ j noAttrs) (ρ .at j l))
+        arm (yes e) (no l) = rw (set-out σ j x (omega arith))
+
+  roomy-set : (σ : Slots) → Roomy σ → (j : ℕ) → Roomy (set σ j (put d v (slot σ j)))
+  roomy-set σ ρ j = record { at = λ i l. rw (fixed-set (λ a. length (a .nums)) (λ a h. room-put a) σ ρ j i) (ρ .at i (rw length-set at l)) }
+
+  module _ {X : Type 0} (g : Attrs → X) (fixed : (a : Attrs) → 6 ≤ length (a .nums) → g (put d v a) ≡ g a) where
+    fixed-putAll : (js : List ℕ) (σ : Slots) → Roomy σ → (i : ℕ) → g (slot (putAll d v js σ) i) ≡ g (slot σ i)
+    unfolding putAll
+    fixed-putAll [] σ ρ i = refl
+    fixed-putAll (j ∷ js) σ ρ i = fixed-putAll js (set σ j (put d v (slot σ j))) (roomy-set σ ρ j) i ∙ fixed-set g fixed σ ρ j i
+
+  own-putAll : (js : List ℕ) (σ : Slots) → Roomy σ → (i : ℕ) → Option·getD (value d (slot (putAll d v js σ) i)) v ≡ Option·getD (value d (slot σ i)) v
+  unfolding own
+  own-putAll = fixed-putAll own own-put
+
+  -- a value that is set stays
+  set-stays : {a b : Attrs} → Kept a b → (u : ℕ) → value d a ≡ some u → value d b ≡ some u
+  unfolding value declaredAt
+  set-stays {a} {b} k u h = rw (k .kind) (arm (eqb (a .kind) (kindOf d)) h)
+    where
+      arm : (t : Bool) → cond t (declaredAt a (bitOf d)) none ≡ some u → cond t (declaredAt b (bitOf d)) none ≡ some u
+      arm true h = k .vals (bitOf d) u h
+      arm false h = absurd (Option·none-ne-some u h)
+
+  -- such a member has the detail afterwards
+
+  put-some : (a : Attrs) → a .kind ≡ kindOf d → 6 ≤ length (a .nums) → (u : ℕ) × (value d (put d v a) ≡ some u)
+  unfolding value put declareAt
+  put-some a e l = rw (eq-eqb (a .kind) (kindOf d) e) (arm (declaredAt a (bitOf d)) refl)
+    where
+      arm : (o : Option ℕ) → declaredAt a (bitOf d) ≡ o → (u : ℕ) × (cond (eqb (putAt (bitOf d) v a o .kind) (kindOf d)) (declaredAt (putAt (bitOf d) v a o) (bitOf d)) none ≡ some u)
+      arm none h = (v, rw (declareAt-kind a (bitOf d) v, eq-eqb (a .kind) (kindOf d) e) (declareAt-same a (bitOf d) v h (omega (arith, bitOf-lt d))))
+      arm (some u) h = (u, rw (eq-eqb (a .kind) (kindOf d) e) h)
+
+  putAll-some : (js : List ℕ) (σ : Slots) (j : ℕ) → List·Memᴰ j js → Roomy σ → Open d σ j → (u : ℕ) × (value d (slot (putAll d v js σ) j) ≡ some u)
+  unfolding putAll
+  putAll-some [] σ j mem ρ o = absurd (List·Memᴰ·not-nil mem)
+  putAll-some (i ∷ js) σ j mem ρ o = arm (List·Memᴰ·cases-cons mem) (putAll-some js σ₁ j)
+    where
+      σ₁ : Slots
+      σ₁ = set σ i (put d v (slot σ i))
+
+      arm : (j ≡ i) ⊎ List·Memᴰ j js → (List·Memᴰ j js → Roomy σ₁ → Open d σ₁ j → (u : ℕ) × (value d (slot (putAll d v js σ₁) j) ≡ some u))
+          → (u : ℕ) × (value d (slot (putAll d v js σ₁) j) ≡ some u)
+      arm (inl e) ih =
+          let s : slot σ₁ j ≡ put d v (slot σ j) = rw e (slot-set σ i (put d v (slot σ i)) (rw e at (o .inside))) in
+          let p = put-some (slot σ j) (o .kind) (ρ .at j (o .inside)) in
+          (p .0, set-stays (putAll-later d v js σ₁ .at j) (p .0) (ap (value d) s ∙ p .1))
+      arm (inr h) ih = ih h (roomy-set σ ρ i) (record { inside = lt-length-set σ i _ (o .inside); kind = fixed-set (λ a. a .kind) (λ a l. kind-put a) σ ρ i j ∙ o .kind })
+
+  -- what a member declares is among what the cluster declares
+  declared-mem : (js : List ℕ) (σ : Slots) (j u : ℕ) → List·Memᴰ j js → value d (slot σ j) ≡ some u → List·Memᴰ u (declared d σ js)
+  unfolding declared
+  declared-mem [] σ j u mem h = absurd (List·Memᴰ·not-nil mem)
+  declared-mem (i ∷ js) σ j u mem h = arm (List·Memᴰ·cases-cons mem) (declared-mem js σ j u)
+    where
+      later : (o : Option ℕ) (l : List ℕ) → List·Memᴰ u l → List·Memᴰ u (cons? o l)
+      later none l k = k
+      later (some x) l k = List·Memᴰ·tail k
+
+      arm : (j ≡ i) ⊎ List·Memᴰ j js → (List·Memᴰ j js → value d (slot σ j) ≡ some u → List·Memᴰ u (declared d σ js)) → List·Memᴰ u (cons? (value d (slot σ i)) (declared d σ js))
+      arm (inl e) ih = rw (sym (ap (λ k. value d (slot σ k)) e) ∙ h) (List·Memᴰ·head refl)
+      arm (inr k) ih = later (value d (slot σ i)) (declared d σ js) (ih k h)
+
+agreed : (m : Model) (d u v : ℕ) → agree m d u v ≡ true → key m d u ≡ key m d v
+unfolding agree
+agreed m d u v h = same-sound (key m d u) (key m d v) h
+
+-- the key that a cluster comes to have
+abbrev pub keyOf : Model → ℕ → List ℕ → Option (List ℕ)
+keyOf m d [] = none
+keyOf m d (v ∷ vs) = some (key m d v)
+
+module _ (m : Model) (d : ℕ) (js : List ℕ) (σ : Slots) (j : ℕ) (mem : List·Memᴰ j js) (ρ : Roomy σ) (o : Open d σ j) where
+  settle-key : (vs : List ℕ) → declared d σ js ≡ vs → conflict m d vs ≡ false → Option·map (key m d) (value d (slot (settle m d vs js σ) j)) ≡ keyOf m d vs
+  unfolding settle conflict
+  settle-key [] e h = arm (value d (slot σ j)) refl
+    where
+      arm : (w : Option ℕ) → value d (slot σ j) ≡ w → Option·map (key m d) w ≡ none
+      arm none q = refl
+      arm (some u) q = absurd (List·Memᴰ·not-nil (rw e at (declared-mem d 0 js σ j u mem q)))
+  settle-key (v ∷ vs) e h =
+      let a : all (agree m d v) vs ≡ true = not-false _ h in
+      rw a (arm (value d (slot σ j)) refl a)
+    where
+      arm : (w : Option ℕ) → value d (slot σ j) ≡ w → all (agree m d v) vs ≡ true → Option·map (key m d) (value d (slot (putAll d v js σ) j)) ≡ some (key m d v)
+      arm w q a =
+          let p = putAll-some d v js σ j mem ρ o in
+          let u : p .0 ≡ Option·getD w v = ap (λ x. Option·getD x v) (sym (p .1)) ∙ (own-putAll d v js σ ρ j ∙ ap (λ x. Option·getD x v) q) in
+          rw (p .1, u) (ap some (which w q))
+        where
+          which : (w : Option ℕ) → value d (slot σ j) ≡ w → key m d (Option·getD w v) ≡ key m d v
+          which none q = refl
+          which (some x) q = side (List·Memᴰ·cases-cons (rw e at (declared-mem d v js σ j x mem q)))
+            where
+              side : (x ≡ v) ⊎ List·Memᴰ x vs → key m d x ≡ key m d v
+              side (inl e) = ap (key m d) e
+              side (inr k) = sym (agreed m d v x (all-mem (agree m d v) vs x a k))
+
+pub fill-key : (m : Model) (d : ℕ) (js : List ℕ) (σ : Slots) → conflict m d (declared d σ js) ≡ false → (j : ℕ) → List·Memᴰ j js → Roomy σ → Open d σ j
+    → Option·map (key m d) (value d (slot (fill m js d σ) j)) ≡ keyOf m d (declared d σ js)
+unfolding fill
+fill-key m d js σ h j mem ρ o = settle-key m d js σ j mem ρ o (declared d σ js) refl h

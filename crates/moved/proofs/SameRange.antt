@@ -1,0 +1,93 @@
+-- From one key for each detail to one range, and to texts that are alike.
+-- Assumes nothing.
+use Prim.Native.Nat.{ℕ, _+_, _<_}
+use native.Mathlib.Decide.{ℕ-discrete}
+use native.Mathlib.Omega.{arith}
+use mathlib.Core.Path.{_≡_, refl, ap, _∙_, sym}
+use mathlib.Core.Logic.{_≢_}
+use mathlib.Core.Bool.{true, _&&_}
+use mathlib.Core.List.{[], _∷_}
+use mathlib.Core.Option.{Option, none, some, Option·map, Option·none-ne-some, Option·some-ne-none}
+use borrow.Author.Tests.{eq-eqb, ne-eqb}
+use Rattle.base.specs.Lists.{same}
+use Rattle.oce_model.specs.Attributes.{Attrs, declaredAt}
+use Rattle.oce_model.specs.Model.{Model, text}
+use Rattle.crossed_bounds.specs.Ranges.{rangeOf}
+use Rattle.crossed_bounds.specs.Values.{Datum, inside}
+use Rattle.unify.specs.Slots.{bitOf, key, kindOf, value}
+use Rattle.moved.specs.Moved.{alike, alikeUnits}
+use Rattle.base.proofs.Lists.{same-refl}
+
+-- two attributes of one kind that have one key for each detail of that kind
+pub record OneKey (m : Model) (a b : Attrs) : Type 0 where
+  pub kind : a .kind ≡ b .kind
+  pub keys : (d : ℕ) → d < 6 → a .kind ≡ kindOf (d + 1) → Option·map (key m (d + 1)) (value (d + 1) a) ≡ Option·map (key m (d + 1)) (value (d + 1) b)
+
+value-is : (d : ℕ) (a : Attrs) → a .kind ≡ kindOf d → value d a ≡ declaredAt a (bitOf d)
+unfolding value
+value-is d a e = rw (eq-eqb _ _ e)
+
+singles : (x y : Option ℕ) → Option·map (λ v. v ∷ []) x ≡ Option·map (λ v. v ∷ []) y → x ≡ y
+singles none none h = refl
+singles none (some v) h = absurd (Option·none-ne-some _ h)
+singles (some u) none h = absurd (Option·some-ne-none _ h)
+singles (some u) (some v) h = cc
+
+alike-texts : (m : Model) (x y : Option ℕ) → Option·map (text m) x ≡ Option·map (text m) y → alike m x y ≡ true
+alike-texts m none none h = refl
+alike-texts m none (some v) h = absurd (Option·none-ne-some _ h)
+alike-texts m (some u) none h = absurd (Option·some-ne-none _ h)
+alike-texts m (some u) (some v) h = let e : text m u ≡ text m v = cc in rw e (same-refl (text m v))
+
+module _ (m : Model) (a b : Attrs) (o : OneKey m a b) where
+  vals : (d : ℕ) → d < 6 → a .kind ≡ kindOf (d + 1) → Option·map (key m (d + 1)) (declaredAt a (bitOf (d + 1))) ≡ Option·map (key m (d + 1)) (declaredAt b (bitOf (d + 1)))
+  vals d l e = ap (Option·map (key m (d + 1))) (sym (value-is (d + 1) a e)) ∙ o .keys d l e ∙ ap (Option·map (key m (d + 1))) (value-is (d + 1) b (sym (o .kind) ∙ e))
+
+  unit : a .kind ≡ 0 → alike m (declaredAt a 1) (declaredAt b 1) ≡ true
+  unfolding key bitOf kindOf
+  unit e = alike-texts m (declaredAt a 1) (declaredAt b 1) (vals 0 (omega arith) e)
+
+  quantity : a .kind ≡ 0 → alike m (declaredAt a 0) (declaredAt b 0) ≡ true
+  unfolding key bitOf kindOf
+  quantity e = alike-texts m (declaredAt a 0) (declaredAt b 0) (vals 1 (omega arith) e)
+
+  real-min : a .kind ≡ 0 → declaredAt a 3 ≡ declaredAt b 3
+  unfolding key bitOf kindOf
+  real-min e = singles (declaredAt a 3) (declaredAt b 3) (vals 2 (omega arith) e)
+
+  real-max : a .kind ≡ 0 → declaredAt a 4 ≡ declaredAt b 4
+  unfolding key bitOf kindOf
+  real-max e = singles (declaredAt a 4) (declaredAt b 4) (vals 3 (omega arith) e)
+
+  int-min : a .kind ≡ 1 → declaredAt a 3 ≡ declaredAt b 3
+  unfolding key bitOf kindOf
+  int-min e = singles (declaredAt a 3) (declaredAt b 3) (vals 4 (omega arith) e)
+
+  int-max : a .kind ≡ 1 → declaredAt a 4 ≡ declaredAt b 4
+  unfolding key bitOf kindOf
+  int-max e = singles (declaredAt a 4) (declaredAt b 4) (vals 5 (omega arith) e)
+
+  same-bounds : rangeOf m a ≡ rangeOf m b
+  unfolding rangeOf
+  same-bounds = arm (ℕ-discrete (b .kind) 0) (ℕ-discrete (b .kind) 1)
+    where
+      arm : Dec (b .kind ≡ 0) → Dec (b .kind ≡ 1) → rangeOf m a ≡ rangeOf m b
+      arm (yes e) f = rw (real-min (o .kind ∙ e), real-max (o .kind ∙ e), o .kind)
+      arm (no e) (yes f) = rw (int-min (o .kind ∙ f), int-max (o .kind ∙ f), o .kind)
+      arm (no e) (no f) = rw (o .kind, ne-eqb _ 0 e, ne-eqb _ 1 f)
+
+  -- so the same values lie inside: all that is asked of the two ranges elsewhere
+  pub same-inside : (v : Datum) → inside (rangeOf m a) v ≡ inside (rangeOf m b) v
+  same-inside v = ap (λ r. inside r v) same-bounds
+
+  -- where other kinds have neither unit nor quantity
+  pub same-units : (a .kind ≢ 0 → (declaredAt a 0 ≡ none) × (declaredAt a 1 ≡ none)) → (b .kind ≢ 0 → (declaredAt b 0 ≡ none) × (declaredAt b 1 ≡ none)) → alikeUnits m a b ≡ true
+  unfolding alikeUnits
+  same-units p q = arm (ℕ-discrete (a .kind) 0)
+    where
+      arm : Dec (a .kind ≡ 0) → (alike m (declaredAt a 1) (declaredAt b 1) && alike m (declaredAt a 0) (declaredAt b 0)) ≡ true
+      arm (yes e) = rw (unit e, quantity e)
+      arm (no e) =
+          let f = p e in
+          let g = q (λ z. e (o .kind ∙ z)) in
+          rw (f .0, f .1, g .0, g .1)

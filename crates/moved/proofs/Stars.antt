@@ -1,0 +1,168 @@
+-- What a report without errors says of the model. Rules 1 to 4: its connections form disjoint stars, each from an Out to Ins and boundary outputs of its type.
+-- Rules 5 and 6: no range is crossed, and nothing that a cluster declares conflicts.
+-- Assumes nothing.
+use Prim.Native.Nat.{ℕ, _+_, _<_, _≤_}
+use mathlib.Core.Path.{_≡_, refl, _∙_, sym}
+use mathlib.Core.Bool.{Bool, true, false, cond, not, _&&_, true≢false}
+use mathlib.Core.List.{[], _∷_, _++_}
+use lib.Dec.{eqb, ltb}
+use borrow.Author.Tests.{eqb-true, ltb-false, not-false}
+use Rattle.base.specs.Lists.{each, only}
+use Rattle.oce_model.specs.Model.{BoundaryOutput, Model, block, blockCount, boundaryOutput, boundaryOutputCount, connection, connectionCount, connector, connectorCount, isConnector, isIn}
+use Rattle.oce_model.specs.declared.Connection.{Connection}
+use Rattle.oce_diag.specs.Diagnostics.{error, hasError, subjectOf}
+use Rattle.oce_diag.specs.declared.DiagCode.the-variants.{CrossedBounds, DirectionMismatch, MalformedDocument, SingleAssignment, TypeMismatch}
+use Rattle.oce_diag.specs.declared.Subject.the-variants.{Nothing, Text}
+use Rattle.structural.specs.Degrees.{degree, external}
+use Rattle.structural.specs.Structural.{sameType, matches, assignmentFaults, blockFaults, connectionFaults, connectorFaults, inRange, outputFaults, rule1, rule2, rule3, rule4}
+use Rattle.crossed_bounds.specs.CrossedBounds.{crossedFaults, rule5}
+use Rattle.crossed_bounds.specs.Ranges.{crossed, rangeOf}
+use Rattle.unify.specs.Clusters.{driven, isRoot, sound}
+use Rattle.unify.specs.Slots.{slot}
+use Rattle.unify.specs.Unify.{clusterFaults, conflict, conflictCode, declared, detailFaults, fillFaults, filledSlots, filledTo, fills, propagated, propagatedFaults, rootFaults, rule6}
+use Rattle.outcome.specs.Report.{allRules, report}
+use Rattle.moved.proofs.NoError.{clean-append, clean-each, clean-only}
+
+-- ---- rule 4
+
+pub record Sound (m : Model) (k : Connection) : Type 0 where
+  pub range : inRange m k ≡ true
+  pub from-out : isIn (connector m (k .from)) ≡ false
+  pub to-in : isIn (connector m (k .to)) ≡ true
+  pub alike : sameType (connector m (k .from)) (connector m (k .to)) ≡ true
+
+pub rule4-clean : (m : Model) → hasError (rule4 m) ≡ false → (i : ℕ) → i < connectionCount m → Sound m (connection m i)
+unfolding rule4 connectionFaults
+rule4-clean m h i l = arm (inRange m k) refl (clean-each (connectionCount m) (λ i. connectionFaults m i (connection m i)) h i l)
+  where
+    k : Connection
+    k = connection m i
+
+    arm : (b : Bool) → inRange m k ≡ b
+        → hasError (cond b (only (isIn (connector m (k .from))) (error DirectionMismatch 4 2 (subjectOf (connector m (k .from))) i)
+        ++ only (not (isIn (connector m (k .to)))) (error DirectionMismatch 4 3 (subjectOf (connector m (k .to))) i)
+        ++ only (not (sameType (connector m (k .from)) (connector m (k .to)))) (error TypeMismatch 4 4 (subjectOf (connector m (k .to))) i))
+        (error MalformedDocument 4 1 Nothing i ∷ [])) ≡ false
+        → Sound m k
+    arm true e g =
+        let p = clean-append _ _ g in
+        let q = clean-append _ _ (p .0) in
+        record {
+          range = e;
+          from-out = clean-only (isIn (connector m (k .from))) DirectionMismatch 4 2 _ i (q .0);
+          to-in = not-false _ (clean-only (not (isIn (connector m (k .to)))) DirectionMismatch 4 3 _ i (q .1));
+          alike = not-false _ (clean-only (not (sameType (connector m (k .from)) (connector m (k .to)))) TypeMismatch 4 4 _ i (p .1));
+        }
+    arm false e g = absurd (true≢false (clean-only true MalformedDocument 4 1 Nothing i g))
+
+-- ---- all rules
+
+pub record Stars (m : Model) : Type 0 where
+  pub wires : (k : ℕ) → k < connectionCount m → Sound m (connection m k)
+  pub single : (i : ℕ) → i < connectorCount m → isIn (connector m i) ≡ true → degree m i ≤ 1
+  pub sources : (i : ℕ) → i < boundaryOutputCount m → sound m (boundaryOutput m i) ≡ true
+
+-- what rules 5 and 6 then say of ranges and clusters
+pub record Quiet (m : Model) : Type 0 where
+  pub range : (i : ℕ) → i < connectorCount m → crossed (rangeOf m (connector m i .attrs)) ≡ false
+  pub agreed : (r : ℕ) → r < connectorCount m → isRoot m r ≡ true → (d : ℕ) → d < 6
+      → conflict m (d + 1) (declared (d + 1) (fills m (r ∷ driven m r) d (filledTo m r)) (r ∷ driven m r)) ≡ false
+  pub rootRange : (r : ℕ) → r < connectorCount m → isRoot m r ≡ true → crossed (rangeOf m (slot (filledTo m (connectorCount m)) r)) ≡ false
+
+rule1-id : (m : Model) → hasError (rule1 m) ≡ false → (i : ℕ) → i < connectorCount m → connector m i .id ≡ i
+unfolding rule1 connectorFaults
+rule1-id m h i l =
+    let p = clean-append (each (blockCount m) (λ i. blockFaults m i (block m i))) _ h in
+    let q = clean-append _ _ (clean-each (connectorCount m) (λ i. connectorFaults m i (connector m i)) (p .1) i l) in
+    eqb-true _ i (not-false _ (clean-only (not (eqb (connector m i .id) i)) MalformedDocument 1 4 _ i (q .0)))
+
+rule2-sound : (m : Model) → hasError (rule2 m) ≡ false → (i : ℕ) → i < boundaryOutputCount m → sound m (boundaryOutput m i) ≡ true
+unfolding rule2 outputFaults sound
+rule2-sound m h i l = arm (isConnector m (o .source)) refl (clean-each (boundaryOutputCount m) (λ i. outputFaults m i (boundaryOutput m i)) h i l)
+  where
+    o : BoundaryOutput
+    o = boundaryOutput m i
+
+    arm : (b : Bool) → isConnector m (o .source) ≡ b
+        → hasError (cond b
+        (only (isIn (connector m (o .source))) (error DirectionMismatch 2 2 (Text (o .iri)) i)
+        ++ only (not (matches o (connector m (o .source)))) (error MalformedDocument 2 3 (Text (o .iri)) i))
+        (error MalformedDocument 2 1 (Text (o .iri)) i ∷ [])) ≡ false
+        → (b && not (isIn (connector m (o .source))) && matches o (connector m (o .source))) ≡ true
+    arm true e g =
+        let p = clean-append _ _ g in
+        rw (clean-only (isIn (connector m (o .source))) DirectionMismatch 2 2 _ i (p .0))
+        (not-false _ (clean-only (not (matches o (connector m (o .source)))) MalformedDocument 2 3 _ i (p .1)))
+    arm false e g = absurd (true≢false (clean-only true MalformedDocument 2 1 (Text (o .iri)) i g))
+
+rule3-single : (m : Model) → hasError (rule3 m) ≡ false → (i : ℕ) → i < connectorCount m → connector m i .id ≡ i → isIn (connector m i) ≡ true → degree m i ≤ 1
+unfolding rule3 assignmentFaults
+rule3-single m h i l e n =
+    let c = connector m i in
+    let x = degree m (c .id) in
+    let g = rw n at (clean-each (connectorCount m) (λ i. assignmentFaults m i (connector m i)) h i l) in
+    let p = clean-append (only (eqb x 0 && not (external m (c .id))) (error SingleAssignment 3 1 (subjectOf c) i)) (only (ltb 1 x) (error SingleAssignment 3 2 (subjectOf c) x)) g in
+    let q : degree m (connector m i .id) ≤ 1 = ltb-false 1 x (clean-only (ltb 1 x) SingleAssignment 3 2 (subjectOf c) x (p .1)) in
+    rw e at q
+
+rule5-range : (m : Model) → hasError (rule5 m) ≡ false → (i : ℕ) → i < connectorCount m → crossed (rangeOf m (connector m i .attrs)) ≡ false
+unfolding rule5 crossedFaults
+rule5-range m h i l =
+    let p = clean-append _ _ (clean-append _ _ (clean-append _ _ h .0) .0) in
+    clean-only (crossed (rangeOf m (connector m i .attrs))) CrossedBounds 5 1 _ i (clean-each (connectorCount m) (λ i. crossedFaults m 1 (subjectOf (connector m i)) i (connector m i .attrs)) (p .0) i l)
+
+rule6-agreed : (m : Model) → hasError (rule6 m) ≡ false → (r : ℕ) → r < connectorCount m → isRoot m r ≡ true → (d : ℕ) → d < 6
+    → conflict m (d + 1) (declared (d + 1) (fills m (r ∷ driven m r) d (filledTo m r)) (r ∷ driven m r)) ≡ false
+unfolding rule6 rootFaults clusterFaults detailFaults fillFaults
+rule6-agreed m h r l e d k =
+    let js = r ∷ driven m r in
+    let g = rw e at (clean-each (connectorCount m) (λ r. rootFaults m r (filledTo m r)) h r l) in
+    let p = clean-append _ _ g in
+    clean-only _ (conflictCode (d + 1)) 6 (d + 1) _ r (clean-each 6 (detailFaults m r js (filledTo m r)) (p .0) d k)
+
+propagated-range : (m : Model) → hasError (propagated m) ≡ false → (r : ℕ) → r < connectorCount m → isRoot m r ≡ true → crossed (rangeOf m (slot (filledTo m (connectorCount m)) r)) ≡ false
+unfolding propagated propagatedFaults filledSlots
+propagated-range m h r l e =
+    let σ = filledTo m (connectorCount m) in
+    let g = clean-only (isRoot m r && crossed (rangeOf m (slot σ r))) CrossedBounds 6 8 _ r (clean-each (connectorCount m) (propagatedFaults m σ) h r l) in
+    rw e at g
+
+all-clean : (m : Model) → hasError (report m) ≡ false → (hasError (allRules m) ≡ false) × (hasError (propagated m) ≡ false)
+unfolding report
+all-clean m h = arm (hasError (allRules m)) refl h
+  where
+    arm : (b : Bool) → hasError (allRules m) ≡ b → hasError (cond b (allRules m) (allRules m ++ propagated m)) ≡ false → (hasError (allRules m) ≡ false) × (hasError (propagated m) ≡ false)
+    arm true e g = absurd (true≢false (sym e ∙ g))
+    arm false e g = clean-append (allRules m) (propagated m) g
+
+module _ (m : Model) (h : hasError (report m) ≡ false) where
+  first-five : hasError (rule1 m ++ rule2 m ++ rule3 m ++ rule4 m ++ rule5 m) ≡ false
+  unfolding allRules
+  first-five = clean-append _ (rule6 m) (all-clean m h .0) .0
+
+  first-four : hasError (rule1 m ++ rule2 m ++ rule3 m ++ rule4 m) ≡ false
+  first-four = clean-append _ (rule5 m) first-five .0
+
+  first-three : hasError (rule1 m ++ rule2 m ++ rule3 m) ≡ false
+  first-three = clean-append _ (rule4 m) first-four .0
+
+  first-two : hasError (rule1 m ++ rule2 m) ≡ false
+  first-two = clean-append _ (rule3 m) first-three .0
+
+  sixth : hasError (rule6 m) ≡ false
+  unfolding allRules
+  sixth = clean-append (rule1 m ++ rule2 m ++ rule3 m ++ rule4 m ++ rule5 m) (rule6 m) (all-clean m h .0) .1
+
+  pub stars : Stars m
+  stars = record {
+    wires = rule4-clean m (clean-append (rule1 m ++ rule2 m ++ rule3 m) (rule4 m) first-four .1);
+    single = λ i l n. rule3-single m (clean-append (rule1 m ++ rule2 m) (rule3 m) first-three .1) i l (rule1-id m (clean-append _ (rule2 m) first-two .0) i l) n;
+    sources = rule2-sound m (clean-append (rule1 m) (rule2 m) first-two .1);
+  }
+
+  pub quiet : Quiet m
+  quiet = record {
+    range = rule5-range m (clean-append (rule1 m ++ rule2 m ++ rule3 m ++ rule4 m) (rule5 m) first-five .1);
+    agreed = rule6-agreed m sixth;
+    rootRange = propagated-range m (all-clean m h .1);
+  }
