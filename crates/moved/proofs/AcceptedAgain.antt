@@ -3,7 +3,7 @@
 use Prim.Native.Nat.{ℕ, _+_, _<_}
 use native.Mathlib.Decide.{ℕ-discrete}
 use native.Mathlib.Omega.{arith}
-use mathlib.Core.Path.{_≡_, refl, _∙_, sym}
+use mathlib.Core.Path.{_≡_, refl, sym, _∙_}
 use mathlib.Core.Logic.{_≢_}
 use mathlib.Core.Bool.{Bool, false, _&&_, _||_}
 use mathlib.Core.List.{List, List·Memᴰ}
@@ -11,6 +11,7 @@ use mathlib.Core.Option.{none}
 use lib.ListN.{length}
 use lib.Dec.{eqb, leb, ltb}
 use borrow.Author.Tests.{ne-eqb, le-ltb}
+use Rattle.oce_model.specs.Format.{blockTag, boundaryInputAttrs, boundaryInputTag, boundaryOutputAttrs, boundaryOutputTag, connectorAttrs, connectorTag, headTag, textTag}
 use Rattle.oce_model.specs.Attributes.{attrsAt}
 use Rattle.oce_model.specs.Image.{fields, stop, ofTag, fieldAt}
 use Rattle.oce_model.specs.Model.{Connector, blockAt, connectorAt, boundaryInputAt, boundaryOutputAt}
@@ -34,11 +35,11 @@ connector-fine : (c d : Connector) → SameConnector c d → badConnector d ≡ 
 unfolding badConnector
 connector-fine c d h = rw (h .dir, h .valueType, h .enumClass)
 
-module _ (s t : List ℕ) (σ : Slots) (acc : Accepted s) (w : Rewritten s t σ) (places : (j : ℕ) → j < connectorSlots s + outputSlots s → length (slot σ j .nums) ≡ 6) (caps : AllCaps σ) (well : All (Well (textCount s)) σ) where
+module _ (s t : List ℕ) (σ : Slots) (acc : Accepted s) (w : Rewritten s t σ) (six : (j : ℕ) → j < connectorSlots s + outputSlots s → length (slot σ j .nums) ≡ 6) (caps : AllCaps σ) (well : All (Well (textCount s)) σ) where
   -- the attributes of every field
   attrs-fine : (f : Field) → List·Memᴰ f (fields s) → (onAttrs t badAttrs (attrsOffset f) ≡ false) × (onAttrs t (badTextNumbers (textCount s)) (attrsOffset f) ≡ false)
   unfolding attrsOffset
-  attrs-fine f m = arm (ℕ-discrete (f .tag) 4) (ℕ-discrete (f .tag) 7) (ℕ-discrete (f .tag) 8)
+  attrs-fine f m = arm (ℕ-discrete (f .tag) connectorTag) (ℕ-discrete (f .tag) boundaryInputTag) (ℕ-discrete (f .tag) boundaryOutputTag)
     where
       n : ℕ
       n = textCount s
@@ -46,89 +47,89 @@ module _ (s t : List ℕ) (σ : Slots) (acc : Accepted s) (w : Rewritten s t σ)
       Fine : Type 0
       Fine = (onAttrs t badAttrs (attrsOffset f) ≡ false) × (onAttrs t (badTextNumbers n) (attrsOffset f) ≡ false)
 
-      con : (i : ℕ) → i < connectorSlots s → nth 4 s i ≡ f → Well n (attrsAt t (f .at + 19))
-      con i l e = rw (← e, connector-slot s t σ acc w places caps i l) (well .at i)
+      con : (i : ℕ) → i < connectorSlots s → nth connectorTag s i ≡ f → Well n (attrsAt t (f .at + connectorAttrs))
+      con i l e = rw (← e, connector-slot s t σ acc w six caps i l) (well .at i)
 
-      out : (i : ℕ) → i < outputSlots s → nth 8 s i ≡ f → Well n (attrsAt t (f .at + 9))
-      out i l e = rw (← e, out-slot s t σ acc w places caps i l) (well .at (connectorSlots s + i))
+      out : (i : ℕ) → i < outputSlots s → nth boundaryOutputTag s i ≡ f → Well n (attrsAt t (f .at + boundaryOutputAttrs))
+      out i l e = rw (← e, out-slot s t σ acc w six caps i l) (well .at (connectorSlots s + i))
 
-      same7 : f .tag ≡ 7 → attrsAt t (f .at + 5) ≡ attrsAt s (f .at + 5)
-      same7 e =
+      same-input : f .tag ≡ boundaryInputTag → attrsAt t (f .at + boundaryInputAttrs) ≡ attrsAt s (f .at + boundaryInputAttrs)
+      same-input e =
           let z = input-len s acc f m e in
-          attrs-same s t (f .at + 5) (λ x a b. w .still f x m (omega arith) (omega arith) (λ q. absurd (omega (arith, sym e ∙ q))) (λ q. absurd (omega (arith, sym e ∙ q))))
+          attrs-same s t (f .at + boundaryInputAttrs) (λ x a b. w .still f x m (omega arith) (omega arith) (λ q. absurd (omega (arith, sym e ∙ q))) (λ q. absurd (omega (arith, sym e ∙ q))))
 
-      arm : Dec (f .tag ≡ 4) → Dec (f .tag ≡ 7) → Dec (f .tag ≡ 8) → Fine
-      arm (yes e) b c = let p = mem-index (ofTag 4 (fields s)) (fieldAt s 0 0 0) f (mem-tag 4 (fields s) f m e) in rw e (of-well n (attrsAt t (f .at + 19)) (con (p .0) (p .1) (p .2)))
-      arm (no a) (yes e) c = rw e (of-well n (attrsAt t (f .at + 5)) (rw (same7 e) (well-input s acc f m e)))
-      arm (no a) (no b) (yes e) = let p = mem-index (ofTag 8 (fields s)) (fieldAt s 0 0 0) f (mem-tag 8 (fields s) f m e) in rw e (of-well n (attrsAt t (f .at + 9)) (out (p .0) (p .1) (p .2)))
-      arm (no a) (no b) (no c) = rw (ne-eqb (f .tag) 4 a, ne-eqb (f .tag) 7 b, ne-eqb (f .tag) 8 c) (refl, refl)
+      arm : Dec (f .tag ≡ connectorTag) → Dec (f .tag ≡ boundaryInputTag) → Dec (f .tag ≡ boundaryOutputTag) → Fine
+      arm (yes e) b c = let p = mem-index (ofTag connectorTag (fields s)) (fieldAt s 0 0 0) f (mem-tag connectorTag (fields s) f m e) in rw e (of-well n (attrsAt t (f .at + connectorAttrs)) (con (p .0) (p .1) (p .2)))
+      arm (no a) (yes e) c = rw e (of-well n (attrsAt t (f .at + boundaryInputAttrs)) (rw (same-input e) (well-input s acc f m e)))
+      arm (no a) (no b) (yes e) = let p = mem-index (ofTag boundaryOutputTag (fields s)) (fieldAt s 0 0 0) f (mem-tag boundaryOutputTag (fields s) f m e) in rw e (of-well n (attrsAt t (f .at + boundaryOutputAttrs)) (out (p .0) (p .1) (p .2)))
+      arm (no a) (no b) (no c) = rw (ne-eqb (f .tag) connectorTag a, ne-eqb (f .tag) boundaryInputTag b, ne-eqb (f .tag) boundaryOutputTag c) (refl, refl)
 
   length-fine : (f : Field) → List·Memᴰ f (fields s) → badLength t f ≡ false
   unfolding badLength badBlockLength
-  length-fine f m = arm (ℕ-discrete (f .tag) 3)
+  length-fine f m = arm (ℕ-discrete (f .tag) blockTag)
     where
       old : badLength s f ≡ false
       old = none-mem (badLength s) (fields s) (acc .lengths) f m
 
-      arm : Dec (f .tag ≡ 3) → badLength t f ≡ false
+      arm : Dec (f .tag ≡ blockTag) → badLength t f ≡ false
       arm (yes e) =
           let z = block-len s acc f m e in
-          let n4 : f .tag ≢ 4 = λ q. omega (arith, sym e ∙ q) in
-          let n8 : f .tag ≢ 8 = λ q. omega (arith, sym e ∙ q) in
-          rw (num-same s t σ acc w f m n4 n8 2 (f .at + 9) (omega arith) (omega arith), num-same s t σ acc w f m n4 n8 2 (f .at + 11) (omega arith) (omega arith)) old
-      arm (no e) = rw (ne-eqb (f .tag) 3 e) (rw (ne-eqb (f .tag) 3 e) at old)
+          let not-con : f .tag ≢ connectorTag = λ q. omega (arith, sym e ∙ q) in
+          let not-out : f .tag ≢ boundaryOutputTag = λ q. omega (arith, sym e ∙ q) in
+          rw (num-same s t σ acc w f m not-con not-out 2 (f .at + 9) (omega arith) (omega arith), num-same s t σ acc w f m not-con not-out 2 (f .at + 11) (omega arith) (omega arith)) old
+      arm (no e) = rw (ne-eqb (f .tag) blockTag e) (rw (ne-eqb (f .tag) blockTag e) at old)
 
   contents-fine : (f : Field) → List·Memᴰ f (fields s) → badContents t f ≡ false
   unfolding badContents badHead
-  contents-fine f m = rw (head (ℕ-discrete (f .tag) 1), con (ℕ-discrete (f .tag) 4), attrs-fine f m .0)
+  contents-fine f m = rw (head (ℕ-discrete (f .tag) headTag), con (ℕ-discrete (f .tag) connectorTag), attrs-fine f m .0)
     where
       a : Bool
-      a = eqb (f .tag) 1 && badHead s (f .at)
+      a = eqb (f .tag) headTag && badHead s (f .at)
 
       c : Bool
-      c = eqb (f .tag) 4 && badConnector (connectorAt s (f .at))
+      c = eqb (f .tag) connectorTag && badConnector (connectorAt s (f .at))
 
       two : (a || c) ≡ false
       two = or-parts (a || c) (onAttrs s badAttrs (attrsOffset f)) (field-contents s acc f m) .0
 
-      head : Dec (f .tag ≡ 1) → (eqb (f .tag) 1 && badHead t (f .at)) ≡ false
-      head (no e) = rw (ne-eqb (f .tag) 1 e)
+      head : Dec (f .tag ≡ headTag) → (eqb (f .tag) headTag && badHead t (f .at)) ≡ false
+      head (no e) = rw (ne-eqb (f .tag) headTag e)
       head (yes e) =
           let z = head-len s acc f m e in
-          let n4 : f .tag ≢ 4 = λ q. omega (arith, sym e ∙ q) in
-          let n8 : f .tag ≢ 8 = λ q. omega (arith, sym e ∙ q) in
-          rw (num-same s t σ acc w f m n4 n8 2 (f .at + 3) (omega arith) (omega arith), num-same s t σ acc w f m n4 n8 2 (f .at + 5) (omega arith) (omega arith)) (or-parts a c two .0)
+          let not-con : f .tag ≢ connectorTag = λ q. omega (arith, sym e ∙ q) in
+          let not-out : f .tag ≢ boundaryOutputTag = λ q. omega (arith, sym e ∙ q) in
+          rw (num-same s t σ acc w f m not-con not-out 2 (f .at + 3) (omega arith) (omega arith), num-same s t σ acc w f m not-con not-out 2 (f .at + 5) (omega arith) (omega arith)) (or-parts a c two .0)
 
-      con : Dec (f .tag ≡ 4) → (eqb (f .tag) 4 && badConnector (connectorAt t (f .at))) ≡ false
-      con (no e) = rw (ne-eqb (f .tag) 4 e)
+      con : Dec (f .tag ≡ connectorTag) → (eqb (f .tag) connectorTag && badConnector (connectorAt t (f .at))) ≡ false
+      con (no e) = rw (ne-eqb (f .tag) connectorTag e)
       con (yes e) = rw (connector-fine (connectorAt s (f .at)) (connectorAt t (f .at)) (connector-fields s t σ acc w f m e)) (or-parts a c two .1)
 
   text-fine : (f : Field) → List·Memᴰ f (fields s) → badText t f ≡ false
   unfolding badText
-  text-fine f m = arm (ℕ-discrete (f .tag) 2)
+  text-fine f m = arm (ℕ-discrete (f .tag) textTag)
     where
-      arm : Dec (f .tag ≡ 2) → badText t f ≡ false
-      arm (no e) = rw (ne-eqb (f .tag) 2 e)
+      arm : Dec (f .tag ≡ textTag) → badText t f ≡ false
+      arm (no e) = rw (ne-eqb (f .tag) textTag e)
       arm (yes e) = rw (text-same s t σ acc w f m e) (none-mem (badText s) (fields s) (acc .texts) f m)
 
   reference-fine : (f : Field) → List·Memᴰ f (fields s) → badReference (textCount s) t f ≡ false
   unfolding badReference
-  reference-fine f m = rw (block (ℕ-discrete (f .tag) 3), con (ℕ-discrete (f .tag) 4), in′ (ℕ-discrete (f .tag) 7), out (ℕ-discrete (f .tag) 8), attrs-fine f m .1)
+  reference-fine f m = rw (block (ℕ-discrete (f .tag) blockTag), con (ℕ-discrete (f .tag) connectorTag), in′ (ℕ-discrete (f .tag) boundaryInputTag), out (ℕ-discrete (f .tag) boundaryOutputTag), attrs-fine f m .1)
     where
       n : ℕ
       n = textCount s
 
       a : List ℕ → Bool
-      a u = eqb (f .tag) 3 && badOrNone n (blockAt u (f .at) .instanceIri)
+      a u = eqb (f .tag) blockTag && badOrNone n (blockAt u (f .at) .instanceIri)
 
       b : List ℕ → Bool
-      b u = eqb (f .tag) 4 && badOrNone n (connectorAt u (f .at) .iri)
+      b u = eqb (f .tag) connectorTag && badOrNone n (connectorAt u (f .at) .iri)
 
       c : List ℕ → Bool
-      c u = eqb (f .tag) 7 && leb n (boundaryInputAt u (f .at) .iri)
+      c u = eqb (f .tag) boundaryInputTag && leb n (boundaryInputAt u (f .at) .iri)
 
       d : List ℕ → Bool
-      d u = eqb (f .tag) 8 && leb n (boundaryOutputAt u (f .at) .iri)
+      d u = eqb (f .tag) boundaryOutputTag && leb n (boundaryOutputAt u (f .at) .iri)
 
       all : (a s || b s || c s || d s) ≡ false
       all = or-parts (a s || b s || c s || d s) (onAttrs s (badTextNumbers n) (attrsOffset f)) (field-reference s acc f m) .0
@@ -139,20 +140,20 @@ module _ (s t : List ℕ) (σ : Slots) (acc : Accepted s) (w : Rewritten s t σ)
       two : (a s || b s) ≡ false
       two = or-parts (a s || b s) (c s) three .0
 
-      block : Dec (f .tag ≡ 3) → a t ≡ false
-      block (no e) = rw (ne-eqb (f .tag) 3 e)
+      block : Dec (f .tag ≡ blockTag) → a t ≡ false
+      block (no e) = rw (ne-eqb (f .tag) blockTag e)
       block (yes e) = rw (block-same s t σ acc w f m e) (or-parts (a s) (b s) two .0)
 
-      con : Dec (f .tag ≡ 4) → b t ≡ false
-      con (no e) = rw (ne-eqb (f .tag) 4 e)
+      con : Dec (f .tag ≡ connectorTag) → b t ≡ false
+      con (no e) = rw (ne-eqb (f .tag) connectorTag e)
       con (yes e) = rw (connector-fields s t σ acc w f m e .iri) (or-parts (a s) (b s) two .1)
 
-      in′ : Dec (f .tag ≡ 7) → c t ≡ false
-      in′ (no e) = rw (ne-eqb (f .tag) 7 e)
+      in′ : Dec (f .tag ≡ boundaryInputTag) → c t ≡ false
+      in′ (no e) = rw (ne-eqb (f .tag) boundaryInputTag e)
       in′ (yes e) = rw (input-same s t σ acc w f m e) (or-parts (a s || b s) (c s) three .1)
 
-      out : Dec (f .tag ≡ 8) → d t ≡ false
-      out (no e) = rw (ne-eqb (f .tag) 8 e)
+      out : Dec (f .tag ≡ boundaryOutputTag) → d t ≡ false
+      out (no e) = rw (ne-eqb (f .tag) boundaryOutputTag e)
       out (yes e) = rw (out-fields s t σ acc w f m e .0) (or-parts (a s || b s || c s) (d s) all .1)
 
   pub accepts : refusal t ≡ none

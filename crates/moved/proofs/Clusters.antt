@@ -1,16 +1,16 @@
 -- The clusters of a model without errors: who belongs to them, and that no slot belongs to two.
 -- Assumes nothing.
-use Prim.Native.Nat.{ℕ, _+_, _<_, _≤_}
+use Prim.Native.Nat.{ℕ, _+_, _≤_, _<_}
 use native.Mathlib.Decide.{ℕ-discrete, decLt}
 use native.Mathlib.Omega.{arith}
-use mathlib.Core.Path.{_≡_, refl, ap, _∙_, sym}
+use mathlib.Core.Path.{_≡_, refl, sym, ap, _∙_}
 use mathlib.Core.Logic.{_≢_, _⊎_, inl, inr}
 use mathlib.Core.Bool.{Bool, true, false, not, _&&_, false≢true, true≢false}
 use mathlib.Core.List.{List, [], _∷_, List·Memᴰ, List·Memᴰ·not-nil, List·Memᴰ·cases-cons, List·Memᴰ·head, List·Memᴰ·append-cases, Memᴰ·append-left, Memᴰ·append-right}
 use lib.ListN.{length}
 use lib.Dec.{eqb, ltb}
 use borrow.Author.Tests.{eqb-true, ltb-true, lt-ltb, eq-eqb, not-true}
-use Rattle.base.specs.Lists.{each, only, tally}
+use Rattle.base.specs.Lists.{each, tally}
 use Rattle.oce_model.specs.Model.{Model, boundaryOutput, boundaryOutputCount, connection, connectionCount, connector, connectorCount, isIn}
 use Rattle.structural.specs.Degrees.{degree}
 use Rattle.structural.specs.Structural.{inRange}

@@ -1,21 +1,22 @@
 -- Demand 3 over the definitions: its statement is Demand3 of specs/Moved, and this is its proof.
 -- Assumes nothing.
-use Prim.Native.Nat.{ℕ, _+_, _<_, _≤_, _^_}
+use Prim.Native.Nat.{ℕ, _+_, _^_, _≤_, _<_}
 use mathlib.Core.Path.{_≡_, refl, ap, _∙_}
 use mathlib.Core.Bool.{true, false, not, _&&_, _||_}
 use mathlib.Core.List.{List, []}
 use mathlib.Core.Option.{Option, none, some}
+use mathlib.Core.Logic.{_≢_}
 use lib.ListN.{length, getD}
 use lib.Dec.{eqb, ltb}
 use lib.Signed.{mag}
-use borrow.Author.Tests.{ltb-false, ltb-true}
-use mathlib.Core.Logic.{_≢_}
+use borrow.Author.Tests.{ltb-false}
+use Rattle.oce_model.specs.Format.{connectorTag, enumKind, headTag, quantityBit, realKind, unitBit}
 use Rattle.oce_model.specs.Attributes.{Attrs, declaredAt}
 use Rattle.oce_model.specs.Image.{fields}
 use Rattle.oce_model.specs.Model.{Model, boundaryInput, boundaryOutput, boundaryOutputCount, connection, connector, connectorAt, connectorCount, modelOf, text}
 use Rattle.oce_model.specs.Refusals.{attrsOffset, badAttrs, badConnector, badContents, badHead, onAttrs, refusal}
 use Rattle.oce_model.specs.declared.Field.{Field}
-use Rattle.oce_diag.specs.Diagnostics.{errors, hasError}
+use Rattle.oce_diag.specs.Diagnostics.{hasError}
 use Rattle.crossed_bounds.specs.Ranges.{integerRange, rangeOf}
 use Rattle.crossed_bounds.specs.Values.{Datum, inside, ofType}
 use Rattle.unify.specs.Slots.{Slots, slot, slotsOf}
@@ -24,12 +25,12 @@ use Rattle.outcome.specs.Answer.{reportOf}
 use Rattle.outcome.specs.Filled.{filledOf, withSlots}
 use Rattle.outcome.specs.Report.{finalSlots}
 use Rattle.moved.specs.Moved.{Bytes, Clean, FiniteEnds, Choice, Demand3, Kept, Same, alike, alikeUnits, chosen}
-use Rattle.base.proofs.Lists.{and-parts, or-parts}
+use Rattle.base.proofs.Lists.{or-parts}
 use Rattle.oce_model.proofs.Accepted.{Accepted, accepted, connector-is, connectors-length}
 use Rattle.oce_model.proofs.Fields.{none-mem, nth, nth-mem, nth-tag}
 use Rattle.moved.proofs.Clusters.{from-lt, source-lt, to-lt}
-use Rattle.moved.proofs.FilledImage.{slots-caps, slots-places}
-use Rattle.moved.proofs.Flow.{Chosen, a-choice, filled, input-gets, out-units, output-gets, wire-units}
+use Rattle.moved.proofs.FilledImage.{slots-caps, slots-numbers}
+use Rattle.moved.proofs.Flow.{Chosen, a-choice, chosen-lt, filled, input-gets, out-units, output-gets, wire-units}
 use Rattle.moved.proofs.Kept.{Kept·refl, filledTo-later}
 use Rattle.moved.proofs.OneDetail.{Roomy}
 use Rattle.moved.proofs.Refilled.{Rewritten, connector-attrs, out-attrs, rewritten, same-model}
@@ -41,11 +42,13 @@ use Rattle.moved.proofs.Widths.{AllCaps, image-roomy, slot-connector, s
 
 -- ---- over a model f that is m with the attributes of rule 6's slots
 
+-- f is m, with the attributes that rule 6 leaves
 pub record Filled (m f : Model) : Type 0 where
   pub same : Same m f
   pub connectors : (i : ℕ) → i < connectorCount m → connector f i .attrs ≡ slot (filled m) i
   pub outputs : (i : ℕ) → i < boundaryOutputCount m → boundaryOutput f i .attrs ≡ slot (filled m) (connectorCount m + i)
 
+-- ranges and texts are read alike in both
 range-same : (m f : Model) → Same m f → (a : Attrs) → rangeOf f a ≡ rangeOf m a
 unfolding rangeOf integerRange
 range-same m f s a = rw (s .integerMin, s .integerMax)
@@ -62,7 +65,7 @@ alike-same m f s (some u) (some v) = rw (text-same m f s u, text-same m f s v)
 
 units-same : (m f : Model) → Same m f → (a b : Attrs) → alikeUnits f a b ≡ alikeUnits m a b
 unfolding alikeUnits
-units-same m f s a b = rw (alike-same m f s (declaredAt a 1) (declaredAt b 1), alike-same m f s (declaredAt a 0) (declaredAt b 0))
+units-same m f s a b = rw (alike-same m f s (declaredAt a unitBit) (declaredAt b unitBit), alike-same m f s (declaredAt a quantityBit) (declaredAt b quantityBit))
 
 module _ (m f : Model) (is : Filled m f) where
   kept-connectors : (i : ℕ) → i < connectorCount m → Kept (connector m i .attrs) (connector f i .attrs)
@@ -75,34 +78,32 @@ module _ (m f : Model) (is : Filled m f) where
   unfolding boundaryInput
   kept-ins i = rw (is .same .boundaryInputs) (Kept·refl _)
 
-  -- the range and the texts of a connector and of a boundary output
+  -- the filled range of a connector, and of a boundary output
   range-at : (i : ℕ) → i < connectorCount m → rangeOf f (connector f i .attrs) ≡ rangeOf m (slot (filled m) i)
   range-at i l = range-same m f (is .same) (connector f i .attrs) ∙ ap (rangeOf m) (is .connectors i l)
 
   range-out : (i : ℕ) → i < boundaryOutputCount m → rangeOf f (boundaryOutput f i .attrs) ≡ rangeOf m (slot (filled m) (connectorCount m + i))
   range-out i l = range-same m f (is .same) (boundaryOutput f i .attrs) ∙ ap (rangeOf m) (is .outputs i l)
 
-chosen-lt : (m : Model) (i : ℕ) → chosen m i ≡ true → i < connectorCount m
-unfolding chosen
-chosen-lt m i c = ltb-true _ _ (and-parts _ _ c .0)
-
 -- ---- the model of an accepted image
 
-type-ok : (s : List ℕ) (f : Field) → f .tag ≡ 4 → badContents s f ≡ false → connectorAt s (f .at) .valueType ≤ 4
+-- refusal 6 lets no other type pass
+type-ok : (s : List ℕ) (f : Field) → f .tag ≡ connectorTag → badContents s f ≡ false → connectorAt s (f .at) .valueType ≤ enumKind
 unfolding badContents badConnector
 type-ok s f e h =
-    let a = eqb (f .tag) 1 && badHead s (f .at) in
+    let a = eqb (f .tag) headTag && badHead s (f .at) in
     let d = connectorAt s (f .at) in
     let c = ltb 1 (d .dir) || ltb 4 (d .valueType) || (not (eqb (d .valueType) 4) && not (eqb (d .enumClass) 0)) in
-    let g = or-parts a (eqb (f .tag) 4 && c) (or-parts (a || (eqb (f .tag) 4 && c)) (onAttrs s badAttrs (attrsOffset f)) h .0) .1 in
+    let g = or-parts a (eqb (f .tag) connectorTag && c) (or-parts (a || (eqb (f .tag) connectorTag && c)) (onAttrs s badAttrs (attrsOffset f)) h .0) .1 in
     let k : c ≡ false = rw e at g in
     ltb-false 4 (d .valueType) (or-parts (ltb 1 (d .dir)) _ (or-parts _ _ k .0) .1)
 
-types : (s : List ℕ) → Accepted s → (i : ℕ) → i < connectorCount (modelOf s) → connector (modelOf s) i .valueType ≤ 4
+types : (s : List ℕ) → Accepted s → (i : ℕ) → i < connectorCount (modelOf s) → connector (modelOf s) i .valueType ≤ enumKind
 types s acc i l =
     let k = rw (connectors-length s) at l in
-    rw (connector-is s i l) (type-ok s (nth 4 s i) (nth-tag 4 s i k) (none-mem (badContents s) (fields s) (acc .contents) (nth 4 s i) (nth-mem 4 s i k)))
+    rw (connector-is s i l) (type-ok s (nth connectorTag s i) (nth-tag connectorTag s i k) (none-mem (badContents s) (fields s) (acc .contents) (nth connectorTag s i) (nth-mem connectorTag s i k)))
 
+-- the Integer default min is a number of 64 bits
 low-end : (s : List ℕ) → mag (modelOf s .integerMin) < 2 ^ 63
 unfolding modelOf
 low-end s = signed-mag _
@@ -112,9 +113,9 @@ filled-is : (s : List ℕ) → hasError (reportOf s) ≡ false → filledOf s �
 unfolding filledOf finalSlots filledSlots reportOf
 filled-is s h = rw h
 
--- and where there is no error, its model is the image's with rule 6's slots
+-- so its model is the image's with rule 6's slots
 pub again : (s : List ℕ) → Bytes s → refusal s ≡ none → hasError (reportOf s) ≡ false → Filled (modelOf s) (modelOf (filledOf s))
-again s bytes ok clean = rw (filled-is s clean) (record { same = same-model s t σ acc w; connectors = connector-attrs s t σ acc w places caps; outputs = out-attrs s t σ acc w places caps })
+again s bytes ok clean = rw (filled-is s clean) (record { same = same-model s t σ acc w; connectors = connector-attrs s t σ acc w six caps; outputs = out-attrs s t σ acc w six caps })
   where
     acc : Accepted s
     acc = accepted s ok
@@ -131,9 +132,11 @@ again s bytes ok clean = rw (filled-is s clean) (record { same = same-model s t 
     caps : AllCaps σ
     caps = slots-caps s bytes (connectorCount (modelOf s))
 
-    places : (j : ℕ) → j < connectorSlots s + outputSlots s → length (slot σ j .nums) ≡ 6
-    places = slots-places s (connectorCount (modelOf s))
+    six : (j : ℕ) → j < connectorSlots s + outputSlots s → length (slot σ j .nums) ≡ 6
+    six = slots-numbers s (connectorCount (modelOf s))
 
+-- Demand 3: for every accepted image whose report holds no error and in which every connector's attributes are of its value type's kind, all of `Wired` holds of the
+-- image's model and the one read again from the filled image
 pub demand3 : Demand3
 unfolding reportOf
 demand3 s c = record {
@@ -177,7 +180,7 @@ demand3 s c = record {
     room : Roomy (slotsOf m)
     room = image-roomy s
 
-    plain : (i : ℕ) → slot (filled m) i .kind ≢ 0 → (declaredAt (slot (filled m) i) 0 ≡ none) × (declaredAt (slot (filled m) i) 1 ≡ none)
+    plain : (i : ℕ) → slot (filled m) i .kind ≢ realKind → (declaredAt (slot (filled m) i) quantityBit ≡ none) × (declaredAt (slot (filled m) i) unitBit ≡ none)
     plain i = well-plain (textCount s) (slot (filled m) i) (filled-well s acc (connectorCount m) .at i)
 
     chose : (x : ℕ → Datum) → Choice m f x → (i : ℕ) → chosen m i ≡ true → Chosen m st qu (c .kinds) room x i

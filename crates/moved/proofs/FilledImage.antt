@@ -19,8 +19,8 @@ use Rattle.outcome.specs.Filled.{withSlots, filledOf}
 use Rattle.outcome.specs.Answer.{reportOf}
 use Rattle.moved.specs.Moved.{Bytes, Same}
 use Rattle.oce_model.proofs.Accepted.{Accepted, accepted, connectors-length, outputs-length}
-use Rattle.moved.proofs.Settled.{room-fixed, filledTo-fixed}
-use Rattle.moved.proofs.Widths.{AllCaps, image-caps, filledTo-caps, six-places}
+use Rattle.moved.proofs.Fixed.{filledTo-fixed, put-room}
+use Rattle.moved.proofs.Widths.{AllCaps, image-caps, filledTo-caps, six-numbers}
 use Rattle.moved.proofs.WellFormed.{filled-well}
 use Rattle.moved.proofs.Regions.{connectorSlots, outputSlots}
 use Rattle.moved.proofs.Refilled.{Rewritten, rewritten, fields-same, same-model}
@@ -33,8 +33,8 @@ module _ (s : List ℕ) where
   pub slots-caps : Bytes s → (n : ℕ) → AllCaps (filledTo (modelOf s) n)
   slots-caps bytes n = filledTo-caps (modelOf s) n (image-caps s bytes)
 
-  pub slots-places : (n j : ℕ) → j < connectorSlots s + outputSlots s → length (slot (filledTo (modelOf s) n) j .nums) ≡ 6
-  slots-places n j l = filledTo-fixed (λ a. length (a .nums)) room-fixed (modelOf s) n j ∙ six-places s j (rw (connectors-length s, outputs-length s) l)
+  pub slots-numbers : (n j : ℕ) → j < connectorSlots s + outputSlots s → length (slot (filledTo (modelOf s) n) j .nums) ≡ 6
+  slots-numbers n j l = filledTo-fixed (λ a. length (a .nums)) put-room (modelOf s) n j ∙ six-numbers s j (rw (connectors-length s, outputs-length s) l)
 
 start : (m : Model) → slotsOf m ≡ filledTo m 0
 unfolding filledTo steps
@@ -74,7 +74,7 @@ filled-accepted s bytes ok =
     let p = final-is (modelOf s) in
     rw (p .1)
     (accepts s (withSlots s (filledTo (modelOf s) (p .0))) (filledTo (modelOf s) (p .0)) (accepted s ok) (rewritten s (accepted s ok) (filledTo (modelOf s) (p .0)))
-    (slots-places s (p .0)) (slots-caps s bytes (p .0)) (filled-well s (accepted s ok) (p .0)))
+    (slots-numbers s (p .0)) (slots-caps s bytes (p .0)) (filled-well s (accepted s ok) (p .0)))
 
 -- with an error in the report it is the image
 pub filled-undone : (s : List ℕ) → Bytes s → refusal s ≡ none → hasError (reportOf s) ≡ true → filledOf s ≡ s

@@ -1,16 +1,17 @@
 -- Values that run through a model without errors, over its filled slots: what arrives at an input and at a boundary output, and that there is a choice of values.
 -- Assumes nothing.
-use Prim.Native.Nat.{ℕ, _+_, _<_, _≤_, _^_}
+use Prim.Native.Nat.{ℕ, _+_, _^_, _≤_, _<_}
 use native.Mathlib.Omega.{arith}
-use mathlib.Core.Path.{_≡_, refl, ap, _∙_, sym}
+use mathlib.Core.Path.{_≡_, refl, sym, ap, _∙_}
 use mathlib.Core.Logic.{_≢_}
-use mathlib.Core.Bool.{Bool, true, false, not, _&&_, _||_, true≢false}
+use mathlib.Core.Bool.{Bool, true, false, not, _&&_, _||_, true≢false, or-true}
 use mathlib.Core.List.{[], _∷_, List·Memᴰ, List·Memᴰ·head, List·Memᴰ·tail}
 use mathlib.Core.Option.{none}
 use lib.Dec.{eqb, ltb}
 use lib.Signed.{mag}
 use borrow.Author.Tests.{eqb-true, ltb-true, lt-ltb, eq-eqb, ne-eqb, not-true}
 use Rattle.base.specs.Lists.{below, only, steps}
+use Rattle.oce_model.specs.Format.{enumKind, quantityBit, realKind, unitBit}
 use Rattle.oce_model.specs.Attributes.{Attrs, declaredAt}
 use Rattle.oce_model.specs.Model.{Connector, Model, boundaryOutput, boundaryOutputCount, connection, connectionCount, connector, connectorCount, isIn}
 use Rattle.crossed_bounds.specs.Ranges.{crossed, rangeOf}
@@ -24,7 +25,8 @@ use Rattle.base.proofs.Members.{below-found, each-only}
 use Rattle.moved.proofs.Clusters.{alone, driven-root, from-lt, one-wire, out-driven, source-kind, source-lt, source-out, to-lt, wire-driven}
 use Rattle.moved.proofs.OneDetail.{Roomy}
 use Rattle.moved.proofs.SameRange.{OneKey, same-inside, same-units}
-use Rattle.moved.proofs.Settled.{filledTo-fixed, one-key, put-kind}
+use Rattle.moved.proofs.Fixed.{filledTo-fixed, put-kind}
+use Rattle.moved.proofs.Settled.{one-key}
 use Rattle.moved.proofs.SomeValue.{pick, pick-fits}
 use Rattle.moved.proofs.Stars.{Quiet, Stars}
 use Rattle.moved.proofs.Untouched.{between}
@@ -45,14 +47,14 @@ connected-by m i h =
 free-chosen : (m : Model) (i : ℕ) → i < connectorCount m → connected m i ≡ false → chosen m i ≡ true
 unfolding chosen
 free-chosen m i l h = rw (lt-ltb _ _ l, h) (or-true (not (isIn (connector m i))))
-  where
-    or-true : (b : Bool) → (b || true) ≡ true
-    or-true true = refl
-    or-true false = refl
 
 free-arrives : (m : Model) (x : ℕ → Datum) (i : ℕ) → connected m i ≡ false → arrivals m x i ≡ x i ∷ []
 unfolding arrivals
 free-arrives m x i h = rw h
+
+pub chosen-lt : (m : Model) (i : ℕ) → chosen m i ≡ true → i < connectorCount m
+unfolding chosen
+chosen-lt m i c = ltb-true _ _ (and-parts _ _ c .0)
 
 from-start : (m : Model) (i : ℕ) → slot (filledTo m 0) i ≡ slot (slotsOf m) i
 unfolding filledTo steps
@@ -104,7 +106,7 @@ module _ (m : Model) (stars : Stars m) (quiet : Quiet m) (kinds : OfTypes m) (ro
       (out-kind i l ∙ sym (slot-kind r a))
 
   -- where kinds other than Real have neither unit nor quantity
-  module _ (plain : (i : ℕ) → slot (filled m) i .kind ≢ 0 → (declaredAt (slot (filled m) i) 0 ≡ none) × (declaredAt (slot (filled m) i) 1 ≡ none)) where
+  module _ (plain : (i : ℕ) → slot (filled m) i .kind ≢ realKind → (declaredAt (slot (filled m) i) quantityBit ≡ none) × (declaredAt (slot (filled m) i) unitBit ≡ none)) where
     pub wire-units : (k : ℕ) → k < connectionCount m → alikeUnits m (slot (filled m) (connection m k .to)) (slot (filled m) (connection m k .from)) ≡ true
     wire-units k l = same-units m _ _ (wire-key k l) (plain (connection m k .to)) (plain (connection m k .from))
 
@@ -182,15 +184,11 @@ module _ (m : Model) (stars : Stars m) (quiet : Quiet m) (kinds : OfTypes m) (ro
       arm false h g = true≢false (sym to-in ∙ h)
       arm true h g = true≢false (sym (below-some (connectionCount m) (λ k. eqb (connection m k .to) i) k l (eq-eqb _ i e)) ∙ not-true _ g)
 
-  chosen-lt : (i : ℕ) → chosen m i ≡ true → i < connectorCount m
-  unfolding chosen
-  chosen-lt i c = ltb-true _ _ (and-parts _ _ c .0)
-
   uncrossed-at : (i : ℕ) → chosen m i ≡ true → crossed (rangeOf m (slot (filled m) i)) ≡ false
   uncrossed-at i c = arm (isRoot m i) refl
     where
       l : i < connectorCount m
-      l = chosen-lt i c
+      l = chosen-lt m i c
 
       arm : (b : Bool) → isRoot m i ≡ b → crossed (rangeOf m (slot (filled m) i)) ≡ false
       arm true e = quiet .rootRange i l e
@@ -198,8 +196,8 @@ module _ (m : Model) (stars : Stars m) (quiet : Quiet m) (kinds : OfTypes m) (ro
           let s : slot (filled m) i ≡ slot (slotsOf m) i = between m 0 (connectorCount m) i (omega arith) (λ r a b f g. true≢false (sym f ∙ ap (isRoot m) (sym (alone m stars r i l (no-wire i c) g)) ∙ e)) ∙ from-start m i in
           ap (λ a. crossed (rangeOf m a)) (s ∙ slot-connector m i l) ∙ quiet .range i l
 
-  pub a-choice : ((i : ℕ) → i < connectorCount m → connector m i .valueType ≤ 4) → mag (m .integerMin) < 2 ^ 63
+  pub a-choice : ((i : ℕ) → i < connectorCount m → connector m i .valueType ≤ enumKind) → mag (m .integerMin) < 2 ^ 63
       → (i : ℕ) → chosen m i ≡ true → Chosen (λ i. pick (connector m i .valueType) (connector m i .enumClass) (rangeOf m (slot (filled m) i))) i
   a-choice types low i c =
-      let p = pick-fits m (connector m i) (slot (filled m) i) (filled-kind i (chosen-lt i c)) (types i (chosen-lt i c)) low (uncrossed-at i c) in
+      let p = pick-fits m (connector m i) (slot (filled m) i) (filled-kind i (chosen-lt m i c)) (types i (chosen-lt m i c)) low (uncrossed-at i c) in
       record { typed = p .0; ranged = p .1 }

@@ -1,9 +1,9 @@
 -- Rule 6 changes no declared attribute: what a slot declares in the image, it declares likewise after every root.
 -- Assumes nothing.
-use Prim.Native.Nat.{ℕ, zero, suc, _+_, _<_, _≤_}
+use Prim.Native.Nat.{ℕ, zero, suc, _+_, _≤_, _<_}
 use native.Mathlib.Decide.{ℕ-discrete, decLt}
 use native.Mathlib.Omega.{arith}
-use mathlib.Core.Path.{_≡_, refl, ap, _∙_, sym}
+use mathlib.Core.Path.{_≡_, refl, sym, ap, _∙_}
 use mathlib.Core.Logic.{_≢_}
 use mathlib.Core.Bool.{Bool, true, false, cond}
 use mathlib.Core.List.{List, [], _∷_}
@@ -31,7 +31,7 @@ Kept·trans h k = record {
   vals = λ p v e. k .vals p v (h .vals p v e);
 }
 
--- a place that declares nothing has its bit clear
+-- where nothing is declared, the bit is clear
 pub unmarked : (a : Attrs) (p : ℕ) → declaredAt a p ≡ none → bit (a .marks) p ≡ false
 unfolding declaredAt
 unmarked a p h = arm (bit (a .marks) p) h

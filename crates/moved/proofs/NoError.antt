@@ -8,11 +8,11 @@ use mathlib.Core.Bool.{Bool, true, false, cond, _||_, true≢false}
 use mathlib.Core.List.{List, [], _∷_, _++_}
 use lib.ListN.{length}
 use Rattle.base.specs.Lists.{each, any, keep, only}
-use Rattle.base.proofs.Lists.{or-parts, any-append}
 use Rattle.oce_diag.specs.Diagnostics.{diagnostic, error, isError, hasError, errors}
 use Rattle.oce_diag.specs.declared.Diagnostic.{Diagnostic}
 use Rattle.oce_diag.specs.declared.DiagCode.{DiagCode}
 use Rattle.oce_diag.specs.declared.Subject.{Subject}
+use Rattle.base.proofs.Lists.{or-parts, any-append}
 
 pub clean-append : (xs ys : List Diagnostic) → hasError (xs ++ ys) ≡ false → (hasError xs ≡ false) × (hasError ys ≡ false)
 unfolding hasError

@@ -1,15 +1,14 @@
 -- Rule 6, one detail of one cluster: where nothing conflicts, its members come out with one key.
 -- Assumes nothing.
-use Prim.Native.Nat.{ℕ, _<_, _≤_}
-use native.Mathlib.Decide.{ℕ-discrete, decLt}
+use Prim.Native.Nat.{ℕ, _≤_, _<_}
 use native.Mathlib.Omega.{arith}
-use mathlib.Core.Path.{_≡_, refl, ap, _∙_, sym}
+use mathlib.Core.Path.{_≡_, refl, sym, ap, _∙_}
 use mathlib.Core.Logic.{_⊎_, inl, inr}
-use mathlib.Core.Bool.{Bool, true, false, cond, not}
+use mathlib.Core.Bool.{Bool, true, false, cond}
 use mathlib.Core.List.{List, [], _∷_, List·Memᴰ, List·Memᴰ·not-nil, List·Memᴰ·cases-cons, List·Memᴰ·head, List·Memᴰ·tail}
 use mathlib.Core.Option.{Option, none, some, Option·getD, Option·map, Option·none-ne-some}
-use lib.ListN.{length, getD, set, length-set}
-use lib.Seq.{getD-set-same, getD-set-other, set-out, lt-length-set}
+use lib.ListN.{length, set, length-set}
+use lib.Seq.{getD-set-same, lt-length-set}
 use lib.Dec.{eqb}
 use borrow.Author.Tests.{eq-eqb, not-false}
 use Rattle.base.specs.Lists.{all}
@@ -20,13 +19,14 @@ use Rattle.unify.specs.Unify.{conflict, cons?, declared, fill, putAll, settle}
 use Rattle.moved.specs.Moved.{Kept}
 use Rattle.base.proofs.Lists.{same-sound}
 use Rattle.base.proofs.Members.{all-mem}
-use Rattle.moved.proofs.Kept.{bitOf-lt, declareAt-kind, declareAt-same, put-kept, putAll-later}
+use Rattle.moved.proofs.Fixed.{set-fixed, put-kind, put-room}
+use Rattle.moved.proofs.Kept.{bitOf-lt, declareAt-kind, declareAt-same, putAll-later}
 
 slot-set : (σ : Slots) (j : ℕ) (x : Attrs) → j < length σ → slot (set σ j x) j ≡ x
 unfolding slot
 slot-set σ j x l = getD-set-same σ j x noAttrs l
 
--- every slot has its six places
+-- every slot has its six numbers
 pub record Roomy (σ : Slots) : Type 0 where
   pub at : (i : ℕ) → i < length σ → 6 ≤ length (slot σ i .nums)
 
@@ -53,44 +53,14 @@ module _ (d v : ℕ) where
       arm true e (some u) h = rw (e, h)
       arm true e none h = rw (declareAt-kind a p v, e, declareAt-same a p v h (omega (arith, bitOf-lt d)))
 
-  kind-put : (a : Attrs) → put d v a .kind ≡ a .kind
-  kind-put a = put-kept d v a .kind
-
-  pub room-put : (a : Attrs) → length (put d v a .nums) ≡ length (a .nums)
-  unfolding put declareAt
-  room-put a = arm (eqb (a .kind) (kindOf d)) (declaredAt a (bitOf d))
-    where
-      arm : (b : Bool) (o : Option ℕ) → length (cond b (putAt (bitOf d) v a o) a .nums) ≡ length (a .nums)
-      arm false o = refl
-      arm true none = length-set (a .nums) (bitOf d) v
-      arm true (some u) = refl
-
-  -- what `put` does not change, `putAll` does not
-  module _ {X : Type 0} (g : Attrs → X) (fixed : (a : Attrs) → 6 ≤ length (a .nums) → g (put d v a) ≡ g a) where
-    fixed-set : (σ : Slots) → Roomy σ → (j i : ℕ) → g (slot (set σ j (put d v (slot σ j))) i) ≡ g (slot σ i)
-    unfolding slot
-    fixed-set σ ρ j i = arm (ℕ-discrete i j) (decLt j (length σ))
-      where
-        x : Attrs
-        x = put d v (getD σ j noAttrs)
-
-        arm : Dec (i ≡ j) → Dec (j < length σ) → g (getD (set σ j x) i noAttrs) ≡ g (getD σ i noAttrs)
-        arm (no n) l = ap g (getD-set-other σ j i x noAttrs n)
-        arm (yes e) (yes l) = rw (e, getD-set-same σ j x noAttrs l) (fixed (getD σ j noAttrs) (ρ .at j l))
-        arm (yes e) (no l) = rw (set-out σ j x (omega arith))
-
   roomy-set : (σ : Slots) → Roomy σ → (j : ℕ) → Roomy (set σ j (put d v (slot σ j)))
-  roomy-set σ ρ j = record { at = λ i l. rw (fixed-set (λ a. length (a .nums)) (λ a h. room-put a) σ ρ j i) (ρ .at i (rw length-set at l)) }
-
-  module _ {X : Type 0} (g : Attrs → X) (fixed : (a : Attrs) → 6 ≤ length (a .nums) → g (put d v a) ≡ g a) where
-    fixed-putAll : (js : List ℕ) (σ : Slots) → Roomy σ → (i : ℕ) → g (slot (putAll d v js σ) i) ≡ g (slot σ i)
-    unfolding putAll
-    fixed-putAll [] σ ρ i = refl
-    fixed-putAll (j ∷ js) σ ρ i = fixed-putAll js (set σ j (put d v (slot σ j))) (roomy-set σ ρ j) i ∙ fixed-set g fixed σ ρ j i
+  roomy-set σ ρ j = record { at = λ i l. rw (set-fixed (λ a. length (a .nums)) σ j i (put d v (slot σ j)) (λ k. put-room d v (slot σ j))) (ρ .at i (rw length-set at l)) }
 
   own-putAll : (js : List ℕ) (σ : Slots) → Roomy σ → (i : ℕ) → Option·getD (value d (slot (putAll d v js σ) i)) v ≡ Option·getD (value d (slot σ i)) v
-  unfolding own
-  own-putAll = fixed-putAll own own-put
+  unfolding own putAll
+  own-putAll [] σ ρ i = refl
+  own-putAll (j ∷ js) σ ρ i =
+      own-putAll js (set σ j (put d v (slot σ j))) (roomy-set σ ρ j) i ∙ set-fixed own σ j i (put d v (slot σ j)) (λ l. own-put (slot σ j) (ρ .at j l))
 
   -- a value that is set stays
   set-stays : {a b : Attrs} → Kept a b → (u : ℕ) → value d a ≡ some u → value d b ≡ some u
@@ -125,7 +95,7 @@ module _ (d v : ℕ) where
           let s : slot σ₁ j ≡ put d v (slot σ j) = rw e (slot-set σ i (put d v (slot σ i)) (rw e at (o .inside))) in
           let p = put-some (slot σ j) (o .kind) (ρ .at j (o .inside)) in
           (p .0, set-stays (putAll-later d v js σ₁ .at j) (p .0) (ap (value d) s ∙ p .1))
-      arm (inr h) ih = ih h (roomy-set σ ρ i) (record { inside = lt-length-set σ i _ (o .inside); kind = fixed-set (λ a. a .kind) (λ a l. kind-put a) σ ρ i j ∙ o .kind })
+      arm (inr h) ih = ih h (roomy-set σ ρ i) (record { inside = lt-length-set σ i _ (o .inside); kind = set-fixed (λ a. a .kind) σ i j (put d v (slot σ i)) (λ l. put-kind d v (slot σ i)) ∙ o .kind })
 
   -- what a member declares is among what the cluster declares
   declared-mem : (js : List ℕ) (σ : Slots) (j u : ℕ) → List·Memᴰ j js → value d (slot σ j) ≡ some u → List·Memᴰ u (declared d σ js)

@@ -1,16 +1,17 @@
 -- The image with its slots' attributes written anew: read again it has the same fields, and its model is the model with those attributes.
 -- Assumes nothing.
-use Prim.Native.Nat.{ℕ, _+_, _*_, _<_, _≤_}
+use Prim.Native.Nat.{ℕ, _+_, _*_, _≤_, _<_}
 use native.Mathlib.Omega.{arith}
-use mathlib.Core.Path.{_≡_, refl, ap, _∙_, sym}
+use mathlib.Core.Path.{_≡_, refl, sym, ap, _∙_}
 use mathlib.Core.Logic.{_≢_}
 use mathlib.Core.List.{List, [], _∷_, map, List·Memᴰ, List·Memᴰ·head, List·Memᴰ·tail}
 use lib.ListN.{length, getD, take, drop, length-take, length-drop}
 use lib.Seq.{ext-getD, getD-take, getD-drop}
-use Rattle.numbers.specs.Bytes.{byte, le, le16, le32, le64, signed64}
+use Rattle.numbers.specs.Bytes.{byte, le, le32, le64, signed64}
+use Rattle.oce_model.specs.Format.{attrsLength, blockTag, boundaryInputAttrs, boundaryInputTag, boundaryOutputAttrs, boundaryOutputTag, connectionTag, connectorAttrs, connectorTag, externalInputTag, headTag, textTag}
 use Rattle.oce_model.specs.Attributes.{attrsAt, attrsBytes}
 use Rattle.oce_model.specs.Image.{fieldAt, fields, ofTag, stop}
-use Rattle.oce_model.specs.Model.{BoundaryOutput, Connector, blockAt, boundaryInputAt, boundaryOutput, boundaryOutputAt, boundaryOutputCount, connectionAt, connector, connectorAt, connectorCount, externalInputAt, idsAt, modelOf}
+use Rattle.oce_model.specs.Model.{BoundaryOutput, Connector, inputCountAt, outputCountAt, blockAt, boundaryInputAt, boundaryOutput, boundaryOutputAt, boundaryOutputCount, connectionAt, connector, connectorAt, connectorCount, externalInputAt, idsAt, modelOf}
 use Rattle.oce_model.specs.Texts.{textOf}
 use Rattle.oce_model.specs.declared.Field.{Field}
 use Rattle.unify.specs.Slots.{Slots, slot}
@@ -20,7 +21,7 @@ use Rattle.base.proofs.Lists.{each-same}
 use Rattle.base.proofs.Members.{getD-default, map-same}
 use Rattle.base.proofs.Patches.{patched, patched-inside, patched-length, patched-outside}
 use Rattle.numbers.proofs.Bytes.{le-same}
-use Rattle.oce_model.proofs.Accepted.{head-first, Accepted, block-len, connection-len, connector-is, connector-len, connectors-length, external-len, head-len, input-len, output-is, output-len, outputs-length}
+use Rattle.oce_model.proofs.Accepted.{Accepted, head-first, block-len, connection-len, connector-is, connector-len, connectors-length, external-len, head-len, input-len, output-is, output-len, outputs-length}
 use Rattle.oce_model.proofs.Attributes.{attrs-again, attrs-same, bytes-length}
 use Rattle.oce_model.proofs.Fields.{nth, nth-mem, nth-tag, tag-mem, walk-start, walk-step}
 use Rattle.oce_model.proofs.Places.{endAt, field-end}
@@ -31,8 +32,8 @@ use Rattle.moved.proofs.Widths.{AllCaps}
 -- t is s with the attributes σ in its slots
 pub record Rewritten (s t : List ℕ) (σ : Slots) : Type 0 where
   pub same : length t ≡ length s
-  pub still : (f : Field) (x : ℕ) → List·Memᴰ f (fields s) → f .at ≤ x → x < endAt f → (f .tag ≡ 4 → x < f .at + 19) → (f .tag ≡ 8 → x < f .at + 9) → byte t x ≡ byte s x
-  pub there : (j i : ℕ) → j < connectorSlots s + outputSlots s → i < 32 → byte t (offset s j + i) ≡ byte (attrsBytes (slot σ j)) i
+  pub still : (f : Field) (x : ℕ) → List·Memᴰ f (fields s) → f .at ≤ x → x < endAt f → (f .tag ≡ connectorTag → x < f .at + connectorAttrs) → (f .tag ≡ boundaryOutputTag → x < f .at + boundaryOutputAttrs) → byte t x ≡ byte s x
+  pub there : (j i : ℕ) → j < connectorSlots s + outputSlots s → i < attrsLength → byte t (offset s j + i) ≡ byte (attrsBytes (slot σ j)) i
 
 pub withSlots-is : (s : List ℕ) (σ : Slots) → withSlots s σ ≡ patched s (offset s) (λ j. attrsBytes (slot σ j)) (connectorSlots s + outputSlots s)
 unfolding withSlots patched
@@ -41,9 +42,9 @@ withSlots-is s σ = ap (patched s (offset s) (λ j. attrsBytes (slot σ j))) (of
 pub rewritten : (s : List ℕ) → Accepted s → (σ : Slots) → Rewritten s (withSlots s σ) σ
 rewritten s acc σ = rw (withSlots-is s σ)
     (record {
-      same = patched-length 32 s (offset s) bs n sizes (slots-fit s acc) (slots-apart s acc) n (omega arith);
-      still = λ f x m a b four eight. patched-outside 32 s (offset s) bs n sizes (slots-fit s acc) (slots-apart s acc) n x (omega arith) (outside-slots s acc f x m a b four eight);
-      there = λ j i l k. patched-inside 32 s (offset s) bs n sizes (slots-fit s acc) (slots-apart s acc) n j i (omega arith) l k;
+      same = patched-length attrsLength s (offset s) bs n sizes (slots-fit s acc) (slots-apart s acc) n (omega arith);
+      still = λ f x m a b four eight. patched-outside attrsLength s (offset s) bs n sizes (slots-fit s acc) (slots-apart s acc) n x (omega arith) (outside-slots s acc f x m a b four eight);
+      there = λ j i l k. patched-inside attrsLength s (offset s) bs n sizes (slots-fit s acc) (slots-apart s acc) n j i (omega arith) l k;
     })
   where
     n : ℕ
@@ -52,7 +53,7 @@ rewritten s acc σ = rw (withSlots-is s σ)
     bs : ℕ → List ℕ
     bs = λ j. attrsBytes (slot σ j)
 
-    sizes : (j : ℕ) → length (bs j) ≡ 32
+    sizes : (j : ℕ) → length (bs j) ≡ attrsLength
     sizes j = bytes-length (slot σ j)
 
 heads-all : (s t : List ℕ) (l : List Field) → ((f : Field) → List·Memᴰ f l → (c : ℕ) → c < 3 → byte t (f .at + c) ≡ byte s (f .at + c)) → Heads s t l
@@ -70,21 +71,21 @@ module _ (s t : List ℕ) (σ : Slots) (acc : Accepted s) (w : Rewritten s t σ)
   ends-same = same-stop s t (w .same) (acc .ends) heads
 
   -- numbers in fields without slots
-  pub num-same : (f : Field) → List·Memᴰ f (fields s) → f .tag ≢ 4 → f .tag ≢ 8 → (v x : ℕ) → f .at ≤ x → x + v ≤ endAt f → le v t x ≡ le v s x
-  num-same f m n4 n8 v x a b = le-same v t s x x (λ i l. w .still f (x + i) m (omega arith) (omega arith) (λ e. absurd (n4 e)) (λ e. absurd (n8 e)))
+  pub num-same : (f : Field) → List·Memᴰ f (fields s) → f .tag ≢ connectorTag → f .tag ≢ boundaryOutputTag → (v x : ℕ) → f .at ≤ x → x + v ≤ endAt f → le v t x ≡ le v s x
+  num-same f m not-con not-out v x a b = le-same v t s x x (λ i l. w .still f (x + i) m (omega arith) (omega arith) (λ e. absurd (not-con e)) (λ e. absurd (not-out e)))
 
   -- and those before the attributes of a connector, and of a boundary output
-  pub num-connector : (f : Field) → List·Memᴰ f (fields s) → f .tag ≡ 4 → (v x : ℕ) → f .at ≤ x → x + v ≤ f .at + 19 → le v t x ≡ le v s x
+  pub num-connector : (f : Field) → List·Memᴰ f (fields s) → f .tag ≡ connectorTag → (v x : ℕ) → f .at ≤ x → x + v ≤ f .at + connectorAttrs → le v t x ≡ le v s x
   num-connector f m n v x a b =
       let z = connector-len s acc f m n in
       le-same v t s x x (λ i l. w .still f (x + i) m (omega arith) (omega arith) (λ e. omega arith) (λ e. absurd (omega (arith, sym n ∙ e))))
 
-  pub num-out : (f : Field) → List·Memᴰ f (fields s) → f .tag ≡ 8 → (v x : ℕ) → f .at ≤ x → x + v ≤ f .at + 9 → le v t x ≡ le v s x
+  pub num-out : (f : Field) → List·Memᴰ f (fields s) → f .tag ≡ boundaryOutputTag → (v x : ℕ) → f .at ≤ x → x + v ≤ f .at + boundaryOutputAttrs → le v t x ≡ le v s x
   num-out f m n v x a b =
       let z = output-len s acc f m n in
       le-same v t s x x (λ i l. w .still f (x + i) m (omega arith) (omega arith) (λ e. absurd (omega (arith, sym n ∙ e))) (λ e. omega arith))
 
-  pub text-same : (f : Field) → List·Memᴰ f (fields s) → f .tag ≡ 2 → textOf t f ≡ textOf s f
+  pub text-same : (f : Field) → List·Memᴰ f (fields s) → f .tag ≡ textTag → textOf t f ≡ textOf s f
   unfolding textOf
   text-same f m e =
       let q = field-end s f m in
@@ -96,49 +97,49 @@ module _ (s t : List ℕ) (σ : Slots) (acc : Accepted s) (w : Rewritten s t σ)
       ∙ w .still f (f .at + 3 + i) m (omega arith) (omega arith) (λ z. absurd (omega (arith, sym e ∙ z))) (λ z. absurd (omega (arith, sym e ∙ z)))
       ∙ sym (getD-take (f .len) (drop (f .at + 3) s) i 0 b ∙ getD-drop (f .at + 3) s i 0))
 
-  ids-same : (f : Field) → List·Memᴰ f (fields s) → f .tag ≢ 4 → f .tag ≢ 8 → (x n : ℕ) → f .at ≤ x → x + 4 * n ≤ endAt f → idsAt t x n ≡ idsAt s x n
+  ids-same : (f : Field) → List·Memᴰ f (fields s) → f .tag ≢ connectorTag → f .tag ≢ boundaryOutputTag → (x n : ℕ) → f .at ≤ x → x + 4 * n ≤ endAt f → idsAt t x n ≡ idsAt s x n
   unfolding idsAt
-  ids-same f m n4 n8 x n a b =
-      each-same n (λ i. le32 t (x + 4 * i) ∷ []) (λ i. le32 s (x + 4 * i) ∷ []) (λ i l. ap (λ v. v ∷ []) (num-same f m n4 n8 4 (x + 4 * i) (omega arith) (omega arith)))
+  ids-same f m not-con not-out x n a b =
+      each-same n (λ i. le32 t (x + 4 * i) ∷ []) (λ i. le32 s (x + 4 * i) ∷ []) (λ i l. ap (λ v. v ∷ []) (num-same f m not-con not-out 4 (x + 4 * i) (omega arith) (omega arith)))
 
-  pub block-same : (f : Field) → List·Memᴰ f (fields s) → f .tag ≡ 3 → blockAt t (f .at) ≡ blockAt s (f .at)
+  pub block-same : (f : Field) → List·Memᴰ f (fields s) → f .tag ≡ blockTag → blockAt t (f .at) ≡ blockAt s (f .at)
   unfolding blockAt
   block-same f m e =
       let z = block-len s acc f m e in
-      let n4 : f .tag ≢ 4 = λ q. omega (arith, sym e ∙ q) in
-      let n8 : f .tag ≢ 8 = λ q. omega (arith, sym e ∙ q) in
+      let not-con : f .tag ≢ connectorTag = λ q. omega (arith, sym e ∙ q) in
+      let not-out : f .tag ≢ boundaryOutputTag = λ q. omega (arith, sym e ∙ q) in
       rw (
-        num-same f m n4 n8 4 (f .at + 3) (omega arith) (omega arith),
-        num-same f m n4 n8 2 (f .at + 7) (omega arith) (omega arith),
-        num-same f m n4 n8 2 (f .at + 9) (omega arith) (omega arith),
-        num-same f m n4 n8 2 (f .at + 11) (omega arith) (omega arith),
-        ids-same f m n4 n8 (f .at + 13) (le16 s (f .at + 9)) (omega arith) (omega arith),
-        ids-same f m n4 n8 (f .at + 13 + 4 * le16 s (f .at + 9)) (le16 s (f .at + 11)) (omega arith) (omega arith),
+        num-same f m not-con not-out 4 (f .at + 3) (omega arith) (omega arith),
+        num-same f m not-con not-out 2 (f .at + 7) (omega arith) (omega arith),
+        num-same f m not-con not-out 2 (f .at + 9) (omega arith) (omega arith),
+        num-same f m not-con not-out 2 (f .at + 11) (omega arith) (omega arith),
+        ids-same f m not-con not-out (f .at + 13) (inputCountAt s (f .at)) (omega arith) (omega arith),
+        ids-same f m not-con not-out (f .at + 13 + 4 * inputCountAt s (f .at)) (outputCountAt s (f .at)) (omega arith) (omega arith),
       )
 
-  connection-same : (f : Field) → List·Memᴰ f (fields s) → f .tag ≡ 5 → connectionAt t (f .at) ≡ connectionAt s (f .at)
+  connection-same : (f : Field) → List·Memᴰ f (fields s) → f .tag ≡ connectionTag → connectionAt t (f .at) ≡ connectionAt s (f .at)
   unfolding connectionAt
   connection-same f m e =
       let z = connection-len s acc f m e in
-      let n4 : f .tag ≢ 4 = λ q. omega (arith, sym e ∙ q) in
-      let n8 : f .tag ≢ 8 = λ q. omega (arith, sym e ∙ q) in
-      rw (num-same f m n4 n8 4 (f .at + 3) (omega arith) (omega arith), num-same f m n4 n8 4 (f .at + 7) (omega arith) (omega arith))
+      let not-con : f .tag ≢ connectorTag = λ q. omega (arith, sym e ∙ q) in
+      let not-out : f .tag ≢ boundaryOutputTag = λ q. omega (arith, sym e ∙ q) in
+      rw (num-same f m not-con not-out 4 (f .at + 3) (omega arith) (omega arith), num-same f m not-con not-out 4 (f .at + 7) (omega arith) (omega arith))
 
-  external-same : (f : Field) → List·Memᴰ f (fields s) → f .tag ≡ 6 → externalInputAt t (f .at) ≡ externalInputAt s (f .at)
+  external-same : (f : Field) → List·Memᴰ f (fields s) → f .tag ≡ externalInputTag → externalInputAt t (f .at) ≡ externalInputAt s (f .at)
   unfolding externalInputAt
   external-same f m e =
       let z = external-len s acc f m e in
       num-same f m (λ q. omega (arith, sym e ∙ q)) (λ q. omega (arith, sym e ∙ q)) 4 (f .at + 3) (omega arith) (omega arith)
 
-  pub input-same : (f : Field) → List·Memᴰ f (fields s) → f .tag ≡ 7 → boundaryInputAt t (f .at) ≡ boundaryInputAt s (f .at)
+  pub input-same : (f : Field) → List·Memᴰ f (fields s) → f .tag ≡ boundaryInputTag → boundaryInputAt t (f .at) ≡ boundaryInputAt s (f .at)
   unfolding boundaryInputAt
   input-same f m e =
       let z = input-len s acc f m e in
-      let n4 : f .tag ≢ 4 = λ q. omega (arith, sym e ∙ q) in
-      let n8 : f .tag ≢ 8 = λ q. omega (arith, sym e ∙ q) in
+      let not-con : f .tag ≢ connectorTag = λ q. omega (arith, sym e ∙ q) in
+      let not-out : f .tag ≢ boundaryOutputTag = λ q. omega (arith, sym e ∙ q) in
       rw (
-        num-same f m n4 n8 2 (f .at + 3) (omega arith) (omega arith),
-        attrs-same s t (f .at + 5) (λ x a b. w .still f x m (omega arith) (omega arith) (λ q. absurd (n4 q)) (λ q. absurd (n8 q))),
+        num-same f m not-con not-out 2 (f .at + 3) (omega arith) (omega arith),
+        attrs-same s t (f .at + boundaryInputAttrs) (λ x a b. w .still f x m (omega arith) (omega arith) (λ q. absurd (not-con q)) (λ q. absurd (not-out q))),
       )
 
   -- records of one kind
@@ -156,7 +157,7 @@ module _ (s t : List ℕ) (σ : Slots) (acc : Accepted s) (w : Rewritten s t σ)
       go o rest e =
           let f = fieldAt s 0 0 o in
           let m : List·Memᴰ f (fields s) = rw e (List·Memᴰ·head refl) in
-          let one : f .tag ≡ 1 = head-first s acc o m in
+          let one : f .tag ≡ headTag = head-first s acc o m in
           let z = head-len s acc f m one in
           num-same f m (λ q. omega (arith, sym one ∙ q)) (λ q. omega (arith, sym one ∙ q)) 8 x (omega arith) (omega arith)
 
@@ -166,7 +167,7 @@ module _ (s t : List ℕ) (σ : Slots) (acc : Accepted s) (w : Rewritten s t σ)
   count-same : (tag : ℕ) → length (ofTag tag (fields t)) ≡ length (ofTag tag (fields s))
   count-same tag = ap (λ l. length (ofTag tag l)) fields-same
 
-  pub connector-fields : (f : Field) → List·Memᴰ f (fields s) → f .tag ≡ 4 → SameConnector (connectorAt s (f .at)) (connectorAt t (f .at))
+  pub connector-fields : (f : Field) → List·Memᴰ f (fields s) → f .tag ≡ connectorTag → SameConnector (connectorAt s (f .at)) (connectorAt t (f .at))
   unfolding connectorAt le
   connector-fields f m e = record {
     id = num-connector f m e 4 (f .at + 3) (omega arith) (omega arith);
@@ -177,52 +178,52 @@ module _ (s t : List ℕ) (σ : Slots) (acc : Accepted s) (w : Rewritten s t σ)
     iri = num-connector f m e 2 (f .at + 17) (omega arith) (omega arith);
   }
     where
-      here : (x : ℕ) → f .at ≤ x → x < f .at + 19 → byte t x ≡ byte s x
+      here : (x : ℕ) → f .at ≤ x → x < f .at + connectorAttrs → byte t x ≡ byte s x
       here x a b = let z = connector-len s acc f m e in w .still f x m a (omega arith) (λ q. b) (λ q. absurd (omega (arith, sym e ∙ q)))
 
-  pub out-fields : (f : Field) → List·Memᴰ f (fields s) → f .tag ≡ 8 → (boundaryOutputAt t (f .at) .iri ≡ boundaryOutputAt s (f .at) .iri) × (boundaryOutputAt t (f .at) .source ≡ boundaryOutputAt s (f .at) .source)
+  pub out-fields : (f : Field) → List·Memᴰ f (fields s) → f .tag ≡ boundaryOutputTag → (boundaryOutputAt t (f .at) .iri ≡ boundaryOutputAt s (f .at) .iri) × (boundaryOutputAt t (f .at) .source ≡ boundaryOutputAt s (f .at) .source)
   unfolding boundaryOutputAt
   out-fields f m e = (num-out f m e 2 (f .at + 3) (omega arith) (omega arith), num-out f m e 4 (f .at + 5) (omega arith) (omega arith))
 
-  connector-again : (i : ℕ) → i < connectorSlots s → connector (modelOf t) i ≡ connectorAt t (nth 4 s i .at)
-  connector-again i l = connector-is t i (rw (connectors-length t, count-same 4) l) ∙ ap (connectorAt t) (nth-at 4 i l)
+  connector-again : (i : ℕ) → i < connectorSlots s → connector (modelOf t) i ≡ connectorAt t (nth connectorTag s i .at)
+  connector-again i l = connector-is t i (rw (connectors-length t, count-same connectorTag) l) ∙ ap (connectorAt t) (nth-at connectorTag i l)
 
-  out-again : (i : ℕ) → i < outputSlots s → boundaryOutput (modelOf t) i ≡ boundaryOutputAt t (nth 8 s i .at)
-  out-again i l = output-is t i (rw (outputs-length t, count-same 8) l) ∙ ap (boundaryOutputAt t) (nth-at 8 i l)
+  out-again : (i : ℕ) → i < outputSlots s → boundaryOutput (modelOf t) i ≡ boundaryOutputAt t (nth boundaryOutputTag s i .at)
+  out-again i l = output-is t i (rw (outputs-length t, count-same boundaryOutputTag) l) ∙ ap (boundaryOutputAt t) (nth-at boundaryOutputTag i l)
 
   pub same-model : Same (modelOf s) (modelOf t)
   unfolding modelOf
   same-model = record {
     integerMin = ap signed64 (head-same 7 (omega arith));
     integerMax = ap signed64 (head-same 15 (omega arith));
-    texts = records 2 (textOf t) (textOf s) text-same;
-    blocks = records 3 (λ f. blockAt t (f .at)) (λ f. blockAt s (f .at)) block-same;
-    connectorCount = connectors-length t ∙ count-same 4 ∙ sym (connectors-length s);
+    texts = records textTag (textOf t) (textOf s) text-same;
+    blocks = records blockTag (λ f. blockAt t (f .at)) (λ f. blockAt s (f .at)) block-same;
+    connectorCount = connectors-length t ∙ count-same connectorTag ∙ sym (connectors-length s);
     connectors = λ i l. con i l (rw (connectors-length s) at l);
-    connections = records 5 (λ f. connectionAt t (f .at)) (λ f. connectionAt s (f .at)) connection-same;
-    externalInputs = records 6 (λ f. externalInputAt t (f .at)) (λ f. externalInputAt s (f .at)) external-same;
-    boundaryInputs = records 7 (λ f. boundaryInputAt t (f .at)) (λ f. boundaryInputAt s (f .at)) input-same;
-    outputCount = outputs-length t ∙ count-same 8 ∙ sym (outputs-length s);
+    connections = records connectionTag (λ f. connectionAt t (f .at)) (λ f. connectionAt s (f .at)) connection-same;
+    externalInputs = records externalInputTag (λ f. externalInputAt t (f .at)) (λ f. externalInputAt s (f .at)) external-same;
+    boundaryInputs = records boundaryInputTag (λ f. boundaryInputAt t (f .at)) (λ f. boundaryInputAt s (f .at)) input-same;
+    outputCount = outputs-length t ∙ count-same boundaryOutputTag ∙ sym (outputs-length s);
     boundaryOutputs = λ i l. out i l (rw (outputs-length s) at l);
   }
     where
       con : (i : ℕ) → i < connectorCount (modelOf s) → i < connectorSlots s → SameConnector (connector (modelOf s) i) (connector (modelOf t) i)
-      con i l k = rw (connector-is s i l, connector-again i k) (connector-fields (nth 4 s i) (nth-mem 4 s i k) (nth-tag 4 s i k))
+      con i l k = rw (connector-is s i l, connector-again i k) (connector-fields (nth connectorTag s i) (nth-mem connectorTag s i k) (nth-tag connectorTag s i k))
 
       out : (i : ℕ) → i < boundaryOutputCount (modelOf s) → i < outputSlots s → (boundaryOutput (modelOf t) i .iri ≡ boundaryOutput (modelOf s) i .iri) × (boundaryOutput (modelOf t) i .source ≡ boundaryOutput (modelOf s) i .source)
-      out i l k = rw (output-is s i l, out-again i k) (out-fields (nth 8 s i) (nth-mem 8 s i k) (nth-tag 8 s i k))
+      out i l k = rw (output-is s i l, out-again i k) (out-fields (nth boundaryOutputTag s i) (nth-mem boundaryOutputTag s i k) (nth-tag boundaryOutputTag s i k))
 
-  module _ (places : (j : ℕ) → j < connectorSlots s + outputSlots s → length (slot σ j .nums) ≡ 6) (caps : AllCaps σ) where
+  module _ (six : (j : ℕ) → j < connectorSlots s + outputSlots s → length (slot σ j .nums) ≡ 6) (caps : AllCaps σ) where
     -- the attributes of the i-th connector's field, and of the i-th boundary output's
-    pub connector-slot : (i : ℕ) → i < connectorSlots s → attrsAt t (nth 4 s i .at + 19) ≡ slot σ i
+    pub connector-slot : (i : ℕ) → i < connectorSlots s → attrsAt t (nth connectorTag s i .at + connectorAttrs) ≡ slot σ i
     connector-slot i k =
         let o = offset-connector s i k in
-        attrs-again t (nth 4 s i .at + 19) (slot σ i) (places i (omega arith)) (caps .at i) (λ j h. ap (λ x. byte t (x + j)) (sym o) ∙ w .there i j (omega arith) h)
+        attrs-again t (nth connectorTag s i .at + connectorAttrs) (slot σ i) (six i (omega arith)) (caps .at i) (λ j h. ap (λ x. byte t (x + j)) (sym o) ∙ w .there i j (omega arith) h)
 
-    pub out-slot : (i : ℕ) → i < outputSlots s → attrsAt t (nth 8 s i .at + 9) ≡ slot σ (connectorSlots s + i)
+    pub out-slot : (i : ℕ) → i < outputSlots s → attrsAt t (nth boundaryOutputTag s i .at + boundaryOutputAttrs) ≡ slot σ (connectorSlots s + i)
     out-slot i k =
         let o = offset-out s i k in
-        attrs-again t (nth 8 s i .at + 9) (slot σ (connectorSlots s + i)) (places (connectorSlots s + i) (omega arith)) (caps .at (connectorSlots s + i)) (λ j h. ap (λ x. byte t (x + j)) (sym o) ∙ w .there (connectorSlots s + i) j (omega arith) h)
+        attrs-again t (nth boundaryOutputTag s i .at + boundaryOutputAttrs) (slot σ (connectorSlots s + i)) (six (connectorSlots s + i) (omega arith)) (caps .at (connectorSlots s + i)) (λ j h. ap (λ x. byte t (x + j)) (sym o) ∙ w .there (connectorSlots s + i) j (omega arith) h)
 
     pub connector-attrs : (i : ℕ) → i < connectorCount (modelOf s) → connector (modelOf t) i .attrs ≡ slot σ i
     unfolding connectorAt

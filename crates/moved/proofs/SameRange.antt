@@ -3,13 +3,13 @@
 use Prim.Native.Nat.{ℕ, _+_, _<_}
 use native.Mathlib.Decide.{ℕ-discrete}
 use native.Mathlib.Omega.{arith}
-use mathlib.Core.Path.{_≡_, refl, ap, _∙_, sym}
+use mathlib.Core.Path.{_≡_, refl, sym, ap, _∙_}
 use mathlib.Core.Logic.{_≢_}
 use mathlib.Core.Bool.{true, _&&_}
 use mathlib.Core.List.{[], _∷_}
 use mathlib.Core.Option.{Option, none, some, Option·map, Option·none-ne-some, Option·some-ne-none}
 use borrow.Author.Tests.{eq-eqb, ne-eqb}
-use Rattle.base.specs.Lists.{same}
+use Rattle.oce_model.specs.Format.{integerKind, maxBit, minBit, quantityBit, realKind, unitBit}
 use Rattle.oce_model.specs.Attributes.{Attrs, declaredAt}
 use Rattle.oce_model.specs.Model.{Model, text}
 use Rattle.crossed_bounds.specs.Ranges.{rangeOf}
@@ -43,37 +43,37 @@ module _ (m : Model) (a b : Attrs) (o : OneKey m a b) where
   vals : (d : ℕ) → d < 6 → a .kind ≡ kindOf (d + 1) → Option·map (key m (d + 1)) (declaredAt a (bitOf (d + 1))) ≡ Option·map (key m (d + 1)) (declaredAt b (bitOf (d + 1)))
   vals d l e = ap (Option·map (key m (d + 1))) (sym (value-is (d + 1) a e)) ∙ o .keys d l e ∙ ap (Option·map (key m (d + 1))) (value-is (d + 1) b (sym (o .kind) ∙ e))
 
-  unit : a .kind ≡ 0 → alike m (declaredAt a 1) (declaredAt b 1) ≡ true
+  unit : a .kind ≡ realKind → alike m (declaredAt a unitBit) (declaredAt b unitBit) ≡ true
   unfolding key bitOf kindOf
-  unit e = alike-texts m (declaredAt a 1) (declaredAt b 1) (vals 0 (omega arith) e)
+  unit e = alike-texts m (declaredAt a unitBit) (declaredAt b unitBit) (vals 0 (omega arith) e)
 
-  quantity : a .kind ≡ 0 → alike m (declaredAt a 0) (declaredAt b 0) ≡ true
+  quantity : a .kind ≡ realKind → alike m (declaredAt a quantityBit) (declaredAt b quantityBit) ≡ true
   unfolding key bitOf kindOf
-  quantity e = alike-texts m (declaredAt a 0) (declaredAt b 0) (vals 1 (omega arith) e)
+  quantity e = alike-texts m (declaredAt a quantityBit) (declaredAt b quantityBit) (vals 1 (omega arith) e)
 
-  real-min : a .kind ≡ 0 → declaredAt a 3 ≡ declaredAt b 3
+  real-min : a .kind ≡ realKind → declaredAt a minBit ≡ declaredAt b minBit
   unfolding key bitOf kindOf
-  real-min e = singles (declaredAt a 3) (declaredAt b 3) (vals 2 (omega arith) e)
+  real-min e = singles (declaredAt a minBit) (declaredAt b minBit) (vals 2 (omega arith) e)
 
-  real-max : a .kind ≡ 0 → declaredAt a 4 ≡ declaredAt b 4
+  real-max : a .kind ≡ realKind → declaredAt a maxBit ≡ declaredAt b maxBit
   unfolding key bitOf kindOf
-  real-max e = singles (declaredAt a 4) (declaredAt b 4) (vals 3 (omega arith) e)
+  real-max e = singles (declaredAt a maxBit) (declaredAt b maxBit) (vals 3 (omega arith) e)
 
-  int-min : a .kind ≡ 1 → declaredAt a 3 ≡ declaredAt b 3
+  integer-min : a .kind ≡ integerKind → declaredAt a minBit ≡ declaredAt b minBit
   unfolding key bitOf kindOf
-  int-min e = singles (declaredAt a 3) (declaredAt b 3) (vals 4 (omega arith) e)
+  integer-min e = singles (declaredAt a minBit) (declaredAt b minBit) (vals 4 (omega arith) e)
 
-  int-max : a .kind ≡ 1 → declaredAt a 4 ≡ declaredAt b 4
+  integer-max : a .kind ≡ integerKind → declaredAt a maxBit ≡ declaredAt b maxBit
   unfolding key bitOf kindOf
-  int-max e = singles (declaredAt a 4) (declaredAt b 4) (vals 5 (omega arith) e)
+  integer-max e = singles (declaredAt a maxBit) (declaredAt b maxBit) (vals 5 (omega arith) e)
 
   same-bounds : rangeOf m a ≡ rangeOf m b
   unfolding rangeOf
   same-bounds = arm (ℕ-discrete (b .kind) 0) (ℕ-discrete (b .kind) 1)
     where
-      arm : Dec (b .kind ≡ 0) → Dec (b .kind ≡ 1) → rangeOf m a ≡ rangeOf m b
+      arm : Dec (b .kind ≡ realKind) → Dec (b .kind ≡ integerKind) → rangeOf m a ≡ rangeOf m b
       arm (yes e) f = rw (real-min (o .kind ∙ e), real-max (o .kind ∙ e), o .kind)
-      arm (no e) (yes f) = rw (int-min (o .kind ∙ f), int-max (o .kind ∙ f), o .kind)
+      arm (no e) (yes f) = rw (integer-min (o .kind ∙ f), integer-max (o .kind ∙ f), o .kind)
       arm (no e) (no f) = rw (o .kind, ne-eqb _ 0 e, ne-eqb _ 1 f)
 
   -- so the same values lie inside: all that is asked of the two ranges elsewhere
@@ -81,11 +81,11 @@ module _ (m : Model) (a b : Attrs) (o : OneKey m a b) where
   same-inside v = ap (λ r. inside r v) same-bounds
 
   -- where other kinds have neither unit nor quantity
-  pub same-units : (a .kind ≢ 0 → (declaredAt a 0 ≡ none) × (declaredAt a 1 ≡ none)) → (b .kind ≢ 0 → (declaredAt b 0 ≡ none) × (declaredAt b 1 ≡ none)) → alikeUnits m a b ≡ true
+  pub same-units : (a .kind ≢ realKind → (declaredAt a quantityBit ≡ none) × (declaredAt a unitBit ≡ none)) → (b .kind ≢ realKind → (declaredAt b quantityBit ≡ none) × (declaredAt b unitBit ≡ none)) → alikeUnits m a b ≡ true
   unfolding alikeUnits
   same-units p q = arm (ℕ-discrete (a .kind) 0)
     where
-      arm : Dec (a .kind ≡ 0) → (alike m (declaredAt a 1) (declaredAt b 1) && alike m (declaredAt a 0) (declaredAt b 0)) ≡ true
+      arm : Dec (a .kind ≡ realKind) → (alike m (declaredAt a unitBit) (declaredAt b unitBit) && alike m (declaredAt a quantityBit) (declaredAt b quantityBit)) ≡ true
       arm (yes e) = rw (unit e, quantity e)
       arm (no e) =
           let f = p e in

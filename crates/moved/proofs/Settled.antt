@@ -1,88 +1,32 @@
 -- Rule 6 over a whole model without errors: all members of a cluster end with one key for each detail.
 -- Assumes nothing.
-use Prim.Native.Nat.{ℕ, zero, suc, _+_, _*_, _<_, _≤_}
-use native.Mathlib.Decide.{ℕ-discrete, decLt}
+use Prim.Native.Nat.{ℕ, zero, suc, _+_, _*_, _≤_, _<_}
+use native.Mathlib.Decide.{ℕ-discrete}
 use native.Mathlib.Omega.{arith}
-use mathlib.Core.Path.{_≡_, refl, ap, _∙_, sym}
+use mathlib.Core.Path.{_≡_, refl, sym, ap, _∙_}
 use mathlib.Core.Logic.{_≢_}
 use mathlib.Core.Bool.{Bool, true, false, cond}
 use mathlib.Core.List.{List, [], _∷_, List·Memᴰ}
 use mathlib.Core.Option.{Option, none, some, Option·map}
-use lib.ListN.{length, getD, set}
-use lib.Seq.{getD-set-same, getD-set-other, set-out}
+use lib.ListN.{length, getD}
 use lib.Dec.{eqb}
 use borrow.Author.Tests.{eqb-true}
-use Rattle.base.specs.Lists.{all, steps}
-use Rattle.oce_model.specs.Attributes.{Attrs, declaredAt, noAttrs}
+use Rattle.base.specs.Lists.{steps}
+use Rattle.oce_model.specs.Attributes.{Attrs, declaredAt}
 use Rattle.oce_model.specs.Model.{Model, boundaryOutputCount, connectorCount}
 use Rattle.unify.specs.Clusters.{driven, isRoot}
-use Rattle.unify.specs.Slots.{Slots, agree, bitOf, key, kindOf, put, putAt, slot, slotsOf, value}
-use Rattle.unify.specs.Unify.{conflict, declared, fill, fillRoot, filledTo, fills, putAll, settle}
+use Rattle.unify.specs.Slots.{Slots, bitOf, key, kindOf, put, putAt, slot, slotsOf, value}
+use Rattle.unify.specs.Unify.{conflict, declared, fill, fillRoot, filledTo, fills}
 use Rattle.moved.proofs.Clusters.{apart}
-use Rattle.moved.proofs.Kept.{declareAt-other, put-kept}
-use Rattle.moved.proofs.OneDetail.{Open, Roomy, fill-key, keyOf, room-put}
+use Rattle.moved.proofs.Fixed.{fill-fixed, fills-fixed, filledTo-fixed, put-kind, put-room}
+use Rattle.moved.proofs.Kept.{declareAt-other}
+use Rattle.moved.proofs.OneDetail.{Open, Roomy, fill-key, keyOf}
 use Rattle.moved.proofs.Stars.{Quiet, Stars}
 use Rattle.moved.proofs.Untouched.{between, filledTo-length, filledTo-suc, fills-length, slots-length}
 
--- ---- what `put` leaves alone, rule 6 does
-
-module _ {X : Type 0} (g : Attrs → X) where
-  module _ (d v : ℕ) (fixed : (a : Attrs) → g (put d v a) ≡ g a) where
-    set-fixed : (σ : Slots) (j i : ℕ) → g (slot (set σ j (put d v (slot σ j))) i) ≡ g (slot σ i)
-    unfolding slot
-    set-fixed σ j i = arm (ℕ-discrete i j) (decLt j (length σ))
-      where
-        x : Attrs
-        x = put d v (getD σ j noAttrs)
-
-        arm : Dec (i ≡ j) → Dec (j < length σ) → g (getD (set σ j x) i noAttrs) ≡ g (getD σ i noAttrs)
-        arm (no n) l = ap g (getD-set-other σ j i x noAttrs n)
-        arm (yes e) (yes l) = rw (e, getD-set-same σ j x noAttrs l) (fixed (getD σ j noAttrs))
-        arm (yes e) (no l) = rw (set-out σ j x (omega arith))
-
-    putAll-fixed : (js : List ℕ) (σ : Slots) (i : ℕ) → g (slot (putAll d v js σ) i) ≡ g (slot σ i)
-    unfolding putAll
-    putAll-fixed [] σ i = refl
-    putAll-fixed (j ∷ js) σ i = putAll-fixed js (set σ j (put d v (slot σ j))) i ∙ set-fixed σ j i
-
-  module _ (d : ℕ) (fixed : (v : ℕ) (a : Attrs) → g (put d v a) ≡ g a) where
-    pub fill-fixed : (m : Model) (js : List ℕ) (σ : Slots) (i : ℕ) → g (slot (fill m js d σ) i) ≡ g (slot σ i)
-    unfolding fill settle
-    fill-fixed m js σ i = go (declared d σ js)
-      where
-        arm : (v : ℕ) (b : Bool) → g (slot (cond b (putAll d v js σ) σ) i) ≡ g (slot σ i)
-        arm v true = putAll-fixed d v (fixed v) js σ i
-        arm v false = refl
-
-        go : (vs : List ℕ) → g (slot (settle m d vs js σ) i) ≡ g (slot σ i)
-        go [] = refl
-        go (v ∷ vs) = arm v (all (agree m d v) vs)
-
-  module _ (fixed : (d v : ℕ) (a : Attrs) → g (put d v a) ≡ g a) where
-    pub fills-fixed : (m : Model) (js : List ℕ) (n : ℕ) (σ : Slots) (i : ℕ) → g (slot (fills m js n σ) i) ≡ g (slot σ i)
-    unfolding fills steps
-    fills-fixed m js zero σ i = refl
-    fills-fixed m js (suc n) σ i = fill-fixed (n + 1) (fixed (n + 1)) m js (steps n (λ d τ. fill m js (d + 1) τ) σ) i ∙ fills-fixed m js n σ i
-
-    fillRoot-fixed : (m : Model) (r : ℕ) (σ : Slots) (i : ℕ) → g (slot (fillRoot m r σ) i) ≡ g (slot σ i)
-    unfolding fillRoot
-    fillRoot-fixed m r σ i = arm (isRoot m r)
-      where
-        arm : (b : Bool) → g (slot (cond b (fills m (r ∷ driven m r) 6 σ) σ) i) ≡ g (slot σ i)
-        arm true = fills-fixed m (r ∷ driven m r) 6 σ i
-        arm false = refl
-
-    pub filledTo-fixed : (m : Model) (n i : ℕ) → g (slot (filledTo m n) i) ≡ g (slot (slotsOf m) i)
-    unfolding filledTo steps
-    filledTo-fixed m zero i = refl
-    filledTo-fixed m (suc n) i = fillRoot-fixed m n (filledTo m n) i ∙ filledTo-fixed m n i
-
-pub put-kind : (d v : ℕ) (a : Attrs) → put d v a .kind ≡ a .kind
-put-kind d v a = put-kept d v a .kind
-
 -- ---- the details don't disturb each other
 
--- a detail is known by its kind and its place
+-- a detail is known by its kind and its bit
 detailOf : ℕ → ℕ → ℕ
 detailOf k p = getD (2 ∷ 1 ∷ 0 ∷ 3 ∷ 4 ∷ []) p 0 + 2 * k
 
@@ -96,12 +40,12 @@ detail-is (suc (suc (suc (suc zero)))) l = refl
 detail-is (suc (suc (suc (suc (suc zero))))) l = refl
 detail-is (suc (suc (suc (suc (suc (suc d)))))) l = absurd (omega arith)
 
-other-place : (d e : ℕ) → d < 6 → e < 6 → d ≢ e → kindOf (d + 1) ≡ kindOf (e + 1) → bitOf (d + 1) ≢ bitOf (e + 1)
-other-place d e k l n p q =
+other-bit : (d e : ℕ) → d < 6 → e < 6 → d ≢ e → kindOf (d + 1) ≡ kindOf (e + 1) → bitOf (d + 1) ≢ bitOf (e + 1)
+other-bit d e k l n p q =
     let s : d + 1 ≡ e + 1 = sym (detail-is d k) ∙ ap (λ x. detailOf x (bitOf (d + 1))) p ∙ ap (detailOf (kindOf (e + 1))) q ∙ detail-is e l in
     n (omega arith)
 
--- at another place, or of another kind
+-- under another bit, or of another kind
 pub put-declaredAt : (e v : ℕ) (a : Attrs) (p : ℕ) → (a .kind ≡ kindOf e → p ≢ bitOf e) → declaredAt (put e v a) p ≡ declaredAt a p
 unfolding put
 put-declaredAt e v a p n = arm (eqb (a .kind) (kindOf e)) refl (declaredAt a (bitOf e)) refl
@@ -136,26 +80,23 @@ later-details m js σ i d (suc n) l k = arm (ℕ-discrete d n) (later-details m 
     arm (yes e) ih = ap (λ x. value (d + 1) (slot (fills m js (suc x) σ) i)) (sym e)
     arm (no e) ih =
         ap (λ τ. value (d + 1) (slot τ i)) (fills-suc m js n σ)
-        ∙ fill-fixed (value (d + 1)) (n + 1) (λ v. value-put (d + 1) (n + 1) v (other-place d n (omega arith) (omega arith) e)) m js (fills m js n σ) i
+        ∙ fill-fixed (value (d + 1)) (n + 1) (λ v. value-put (d + 1) (n + 1) v (other-bit d n (omega arith) (omega arith) e)) m js (fills m js n σ) i
         ∙ ih (omega arith) (omega arith)
 
 -- ---- one cluster, then all of them
-
-pub room-fixed : (d v : ℕ) (a : Attrs) → length (put d v a .nums) ≡ length (a .nums)
-room-fixed d v a = room-put d v a
 
 cluster-key : (m : Model) (js : List ℕ) (σ : Slots) (d : ℕ) → d < 6 → conflict m (d + 1) (declared (d + 1) (fills m js d σ) js) ≡ false → Roomy σ → (j : ℕ) → List·Memᴰ j js → j < length σ → slot σ j .kind ≡ kindOf (d + 1)
     → Option·map (key m (d + 1)) (value (d + 1) (slot (fills m js 6 σ) j)) ≡ keyOf m (d + 1) (declared (d + 1) (fills m js d σ) js)
 cluster-key m js σ d l c ρ j mem i k =
     let τ = fills m js d σ in
-    let room : Roomy τ = record { at = λ i l. rw (fills-fixed (λ a. length (a .nums)) room-fixed m js d σ i) (ρ .at i (rw (fills-length m js d σ) at l)) } in
+    let room : Roomy τ = record { at = λ i l. rw (fills-fixed (λ a. length (a .nums)) put-room m js d σ i) (ρ .at i (rw (fills-length m js d σ) at l)) } in
     let o : Open (d + 1) τ j = record { inside = rw (fills-length m js d σ) i; kind = fills-fixed (λ a. a .kind) put-kind m js d σ j ∙ k } in
     ap (Option·map (key m (d + 1))) (later-details m js σ j d 6 l (omega arith) ∙ ap (λ τ. value (d + 1) (slot τ j)) (fills-suc m js d σ))
     ∙ fill-key m (d + 1) js τ c j mem room o
 
 module _ (m : Model) (stars : Stars m) (quiet : Quiet m) (room : Roomy (slotsOf m)) where
   roomy : (n : ℕ) → Roomy (filledTo m n)
-  roomy n = record { at = λ i l. rw (filledTo-fixed (λ a. length (a .nums)) room-fixed m n i) (room .at i (rw (filledTo-length m n ∙ sym (slots-length m)) at l)) }
+  roomy n = record { at = λ i l. rw (filledTo-fixed (λ a. length (a .nums)) put-room m n i) (room .at i (rw (filledTo-length m n ∙ sym (slots-length m)) at l)) }
 
   -- what root r leaves in its cluster stays
   after-root : (r : ℕ) → r < connectorCount m → isRoot m r ≡ true → (j : ℕ) → List·Memᴰ j (r ∷ driven m r)

@@ -1,6 +1,6 @@
 -- A range that isn't crossed holds a value of its type, and no value lies inside a crossed Integer range.
 -- Assumes nothing.
-use Prim.Native.Nat.{ℕ, zero, suc, _<_, _≤_, _^_}
+use Prim.Native.Nat.{ℕ, zero, suc, _^_, _≤_, _<_}
 use native.Mathlib.Decide.{decLt}
 use native.Mathlib.Omega.{arith}
 use mathlib.Core.Path.{_≡_, refl}
@@ -19,6 +19,7 @@ use mir.Val.{toZ}
 use mir.Facts.{toZ-pos}
 use Rattle.base.specs.Lists.{all}
 use Rattle.numbers.specs.Bytes.{signed64, real64}
+use Rattle.oce_model.specs.Format.{enumKind, integerKind, maxBit, minBit, realKind}
 use Rattle.oce_model.specs.Attributes.{Attrs, declaredAt}
 use Rattle.oce_model.specs.Model.{Connector, Model}
 use Rattle.crossed_bounds.specs.Ranges.{finiteEnd, endOf, orDefault, realRange, integerRange, rangeOf, crossedEnds, crossedBounds, crossed}
@@ -108,11 +109,11 @@ unfolding ofKind inside insideBounds crossed crossedBounds
 integer-fit lo hi l h = record { kind = lt-ltb _ _ l; range = and-both _ _ (int-le-refl lo) (int-not-lt-le lo hi h) }
 
 module _ (m : Model) (a : Attrs) where
-  range-real : a .kind ≡ 0 → rangeOf m a ≡ realRange (declaredAt a 3) (declaredAt a 4)
+  range-real : a .kind ≡ realKind → rangeOf m a ≡ realRange (declaredAt a minBit) (declaredAt a maxBit)
   unfolding rangeOf
   range-real e = rw (eq-eqb (a .kind) 0 e)
 
-  range-integer : a .kind ≡ 1 → rangeOf m a ≡ Within (Integer (orDefault (declaredAt a 3) (m .integerMin)) (orDefault (declaredAt a 4) (m .integerMax)))
+  range-integer : a .kind ≡ integerKind → rangeOf m a ≡ Within (Integer (orDefault (declaredAt a minBit) (m .integerMin)) (orDefault (declaredAt a maxBit) (m .integerMax)))
   unfolding rangeOf integerRange
   range-integer e = rw (ne-eqb (a .kind) 0 (λ z. absurd (omega arith)), eq-eqb (a .kind) 1 e)
 
@@ -122,10 +123,10 @@ module _ (m : Model) (a : Attrs) where
 
   kind-fit : (k c : ℕ) → a .kind ≡ k → k ≤ 4 → mag (m .integerMin) < 2 ^ 63 → crossed (rangeOf m a) ≡ false → Fit k (rangeOf m a) (pick k c (rangeOf m a))
   unfolding ofKind inside all
-  kind-fit zero c e l i h = rw (range-real e) (real-fit (declaredAt a 3) (declaredAt a 4) (rw (range-real e) at h))
+  kind-fit zero c e l i h = rw (range-real e) (real-fit (declaredAt a minBit) (declaredAt a maxBit) (rw (range-real e) at h))
   kind-fit (suc zero) c e l i h =
       rw (range-integer e)
-      (integer-fit (orDefault (declaredAt a 3) (m .integerMin)) (orDefault (declaredAt a 4) (m .integerMax)) (default-mag (declaredAt a 3) (m .integerMin) i) (rw (range-integer e) at h))
+      (integer-fit (orDefault (declaredAt a minBit) (m .integerMin)) (orDefault (declaredAt a maxBit) (m .integerMax)) (default-mag (declaredAt a minBit) (m .integerMin) i) (rw (range-integer e) at h))
   kind-fit (suc (suc zero)) c e l i h = rw (range-none (omega arith)) (record { kind = refl; range = refl })
   kind-fit (suc (suc (suc zero))) c e l i h = rw (range-none (omega arith)) (record { kind = refl; range = refl })
   kind-fit (suc (suc (suc (suc zero)))) c e l i h = rw (range-none (omega arith)) (record { kind = refl; range = refl })
@@ -138,7 +139,7 @@ class-fit (suc (suc zero)) c r = refl
 class-fit (suc (suc (suc zero))) c r = refl
 class-fit (suc (suc (suc (suc k)))) c r = eq-eqb c c refl
 
-pub pick-fits : (m : Model) (c : Connector) (a : Attrs) → a .kind ≡ c .valueType → c .valueType ≤ 4 → mag (m .integerMin) < 2 ^ 63 → crossed (rangeOf m a) ≡ false
+pub pick-fits : (m : Model) (c : Connector) (a : Attrs) → a .kind ≡ c .valueType → c .valueType ≤ enumKind → mag (m .integerMin) < 2 ^ 63 → crossed (rangeOf m a) ≡ false
     → (ofType c (pick (c .valueType) (c .enumClass) (rangeOf m a)) ≡ true) × (inside (rangeOf m a) (pick (c .valueType) (c .enumClass) (rangeOf m a)) ≡ true)
 unfolding ofType
 pick-fits m c a e l i h =

@@ -1,11 +1,11 @@
 -- Attributes that refusals 6 and 8 find no fault in: those of an accepted image are such, and rule 6 keeps them so.
 -- Assumes nothing.
-use Prim.Native.Nat.{ℕ, zero, suc, _+_, _<_, _≤_, _^_}
+use Prim.Native.Nat.{ℕ, zero, suc, _+_, _^_, _≤_, _<_}
 use native.Mathlib.Decide.{ℕ-discrete, decLt}
 use native.Mathlib.Omega.{arith}
-use mathlib.Core.Path.{_≡_, refl, _∙_, sym}
+use mathlib.Core.Path.{_≡_, refl, sym, _∙_}
 use mathlib.Core.Logic.{_≢_}
-use mathlib.Core.Bool.{Bool, true, false, cond, not, _&&_, _||_}
+use mathlib.Core.Bool.{Bool, true, false, cond, not, _&&_, _||_, and-false}
 use mathlib.Core.List.{List, List·Memᴰ}
 use mathlib.Core.Option.{Option, none, some, Option·none-ne-some}
 use lib.ListN.{length, getD, set, List·getD-eq-default}
@@ -13,10 +13,11 @@ use lib.Seq.{getD-set-same, getD-set-other, set-out}
 use lib.Dec.{eqb, leb, ltb}
 use borrow.Author.Tests.{eqb-true, ne-eqb, le-ltb, leb-false, lt-leb, eq-eqb, not-false, lt-ltb}
 use Rattle.numbers.specs.Bytes.{bit}
+use Rattle.oce_model.specs.Format.{blockTag, boundaryInputAttrs, boundaryInputTag, boundaryOutputAttrs, boundaryOutputTag, connectorAttrs, connectorTag, headTag, integerKind, quantityBit, realKind, textTag, unitBit}
 use Rattle.oce_model.specs.Attributes.{Attrs, attrsAt, declareAt, declaredAt, marked, noAttrs, num}
 use Rattle.oce_model.specs.Image.{fields, ofTag}
 use Rattle.oce_model.specs.Model.{blockAt, boundaryInputAt, boundaryOutputAt, connectorAt, modelOf}
-use Rattle.oce_model.specs.Refusals.{attrsOffset, badAttrs, badConnector, badContents, badHead, badOrNone, badReference, badTextNumbers, fault, onAttrs, stray}
+use Rattle.oce_model.specs.Refusals.{attrsOffset, badAttrs, badConnector, badContents, badHead, badOrNone, badReference, badTextNumbers, onAttrs, stray}
 use Rattle.oce_model.specs.declared.Field.{Field}
 use Rattle.unify.specs.Slots.{bitOf, kindOf, put, putAt, slotsOf, value}
 use Rattle.unify.specs.Unify.{filledTo}
@@ -28,7 +29,7 @@ use Rattle.moved.proofs.Invariants.{All, filledTo-keeps}
 use Rattle.moved.proofs.Kept.{bitOf-lt, unmarked}
 use Rattle.moved.proofs.Widths.{all-slots}
 
--- Each part of the two tests, of attributes; n is the number of texts
+-- each part of the two refusals' tests; n is the number of texts
 pub record Well (n : ℕ) (a : Attrs) : Type 0 where
   pub kind : ltb 4 (a .kind) ≡ false
   pub unbounded : (bit (a .marks) 7 && not (bit (a .marks) 6)) ≡ false
@@ -37,7 +38,7 @@ pub record Well (n : ℕ) (a : Attrs) : Type 0 where
   pub unset : (p : ℕ) → p < 6 → stray a p ≡ false
   pub texts : (p : ℕ) → p < 3 → (bit (a .marks) p && leb n (num a p)) ≡ false
 
--- ---- the tests of an image's attributes say just that
+-- ---- the tests say just that
 
 record Ten (a b c d e f g h i j : Bool) : Type 0 where
   p₀ : a ≡ false
@@ -118,10 +119,6 @@ pub well-none : (n : ℕ) → Well n noAttrs
 unfolding noAttrs bit stray
 well-none n = record { kind = refl; unbounded = refl; integer = refl; others = refl; unset = λ p l. and-false (not (bit 0 p)); texts = texts }
   where
-    and-false : (b : Bool) → (b && false) ≡ false
-    and-false true = refl
-    and-false false = refl
-
     texts : (p : ℕ) → p < 3 → (bit 0 p && leb n 0) ≡ false
     texts zero l = refl
     texts (suc zero) l = refl
@@ -150,28 +147,28 @@ unfolding declaredAt
 unmarked-none a p h = rw h
 
 -- kinds other than Real have neither
-pub well-plain : (n : ℕ) (a : Attrs) → Well n a → a .kind ≢ 0 → (declaredAt a 0 ≡ none) × (declaredAt a 1 ≡ none)
+pub well-plain : (n : ℕ) (a : Attrs) → Well n a → a .kind ≢ realKind → (declaredAt a quantityBit ≡ none) × (declaredAt a unitBit ≡ none)
 well-plain n a w e =
     let p = plain-marks (a .kind) (a .marks) (w .integer) (w .others) e in
     (unmarked-none a 0 (p .0), unmarked-none a 1 (p .1))
 
 -- ---- rule 6 keeps them
 
--- a value that fits a place: there a text has its number
+-- a value that may stand under bit p: a text number is below the number of texts
 abbrev pub Ok : ℕ → ℕ → ℕ → Type 0
 Ok n p v = p < 3 → v < n
 
-int-places : (d : ℕ) → kindOf d ≡ 1 → (3 ≤ bitOf d) × (bitOf d ≤ 4)
+integer-bits : (d : ℕ) → kindOf d ≡ 1 → (3 ≤ bitOf d) × (bitOf d ≤ 4)
 unfolding kindOf bitOf
-int-places zero e = absurd (omega arith)
-int-places (suc zero) e = absurd (omega arith)
-int-places (suc (suc zero)) e = absurd (omega arith)
-int-places (suc (suc (suc zero))) e = absurd (omega arith)
-int-places (suc (suc (suc (suc zero)))) e = absurd (omega arith)
-int-places (suc (suc (suc (suc (suc zero))))) e = (omega arith, omega arith)
-int-places (suc (suc (suc (suc (suc (suc zero)))))) e = (omega arith, omega arith)
-int-places (suc (suc (suc (suc (suc (suc (suc zero))))))) e = absurd (omega arith)
-int-places (suc (suc (suc (suc (suc (suc (suc (suc d)))))))) e = absurd (omega arith)
+integer-bits zero e = absurd (omega arith)
+integer-bits (suc zero) e = absurd (omega arith)
+integer-bits (suc (suc zero)) e = absurd (omega arith)
+integer-bits (suc (suc (suc zero))) e = absurd (omega arith)
+integer-bits (suc (suc (suc (suc zero)))) e = absurd (omega arith)
+integer-bits (suc (suc (suc (suc (suc zero))))) e = (omega arith, omega arith)
+integer-bits (suc (suc (suc (suc (suc (suc zero)))))) e = (omega arith, omega arith)
+integer-bits (suc (suc (suc (suc (suc (suc (suc zero))))))) e = absurd (omega arith)
+integer-bits (suc (suc (suc (suc (suc (suc (suc (suc d)))))))) e = absurd (omega arith)
 
 kind-lt : (d : ℕ) → kindOf d ≤ 1
 unfolding kindOf
@@ -211,10 +208,10 @@ module _ (n d v : ℕ) (a : Attrs) (ok : Ok n (bitOf d) v) (w : Well n a) (same 
       m : ℕ
       m = a .marks + 2 ^ p
 
-      int : Dec (a .kind ≡ 1) → (eqb (a .kind) 1 && (bit m 0 || bit m 1 || bit m 2 || bit m 5 || bit m 6)) ≡ false
+      int : Dec (a .kind ≡ integerKind) → (eqb (a .kind) 1 && (bit m 0 || bit m 1 || bit m 2 || bit m 5 || bit m 6)) ≡ false
       int (no e) = rw (ne-eqb (a .kind) 1 e)
       int (yes e) =
-          let (x, y) = int-places d (sym same ∙ e) in
+          let (x, y) = integer-bits d (sym same ∙ e) in
           rw (other 0 (omega arith), other 1 (omega arith), other 2 (omega arith), other 5 (omega arith), other 6 (omega arith)) (w .integer)
 
       unset : (q : ℕ) → q < 6 → Dec (q ≡ p) → (not (bit m q) && not (eqb (getD (set (a .nums) p v) q 0) 0)) ≡ false
@@ -251,19 +248,19 @@ value-text n d v a w h l = arm (eqb (a .kind) (kindOf d)) (bit (a .marks) (bitOf
 -- refusals 6 and 8 find no fault in the attributes of a field
 contents-attrs : (s : List ℕ) (f : Field) → badContents s f ≡ false → onAttrs s badAttrs (attrsOffset f) ≡ false
 unfolding badContents
-contents-attrs s f h = or-parts ((eqb (f .tag) 1 && badHead s (f .at)) || (eqb (f .tag) 4 && badConnector (connectorAt s (f .at)))) _ h .1
+contents-attrs s f h = or-parts ((eqb (f .tag) headTag && badHead s (f .at)) || (eqb (f .tag) connectorTag && badConnector (connectorAt s (f .at)))) _ h .1
 
 reference-attrs : (n : ℕ) (s : List ℕ) (f : Field) → badReference n s f ≡ false → onAttrs s (badTextNumbers n) (attrsOffset f) ≡ false
 unfolding badReference
 reference-attrs n s f h =
     or-parts
-    ((eqb (f .tag) 3 && badOrNone n (blockAt s (f .at) .instanceIri)) || (eqb (f .tag) 4 && badOrNone n (connectorAt s (f .at) .iri))
-    || (eqb (f .tag) 7 && leb n (boundaryInputAt s (f .at) .iri)) || (eqb (f .tag) 8 && leb n (boundaryOutputAt s (f .at) .iri)))
+    ((eqb (f .tag) blockTag && badOrNone n (blockAt s (f .at) .instanceIri)) || (eqb (f .tag) connectorTag && badOrNone n (connectorAt s (f .at) .iri))
+    || (eqb (f .tag) boundaryInputTag && leb n (boundaryInputAt s (f .at) .iri)) || (eqb (f .tag) boundaryOutputTag && leb n (boundaryOutputAt s (f .at) .iri)))
     _ h .1
 
 -- how many texts there are
 abbrev pub textCount : List ℕ → ℕ
-textCount s = length (ofTag 2 (fields s))
+textCount s = length (ofTag textTag (fields s))
 
 module _ (s : List ℕ) (acc : Accepted s) where
   pub field-contents : (f : Field) → List·Memᴰ f (fields s) → badContents s f ≡ false
@@ -273,23 +270,23 @@ module _ (s : List ℕ) (acc : Accepted s) where
   field-reference f m = none-mem (badReference (textCount s) s) (fields s) (acc .numbers) f m
 
   module _ (f : Field) (m : List·Memᴰ f (fields s)) where
-    pub well-connector : f .tag ≡ 4 → Well (textCount s) (attrsAt s (f .at + 19))
+    pub well-connector : f .tag ≡ connectorTag → Well (textCount s) (attrsAt s (f .at + connectorAttrs))
     unfolding attrsOffset
     well-connector e = well-of _ _ (rw e at (contents-attrs s f (field-contents f m))) (rw e at (reference-attrs _ s f (field-reference f m)))
 
-    pub well-input : f .tag ≡ 7 → Well (textCount s) (attrsAt s (f .at + 5))
+    pub well-input : f .tag ≡ boundaryInputTag → Well (textCount s) (attrsAt s (f .at + boundaryInputAttrs))
     unfolding attrsOffset
     well-input e = well-of _ _ (rw e at (contents-attrs s f (field-contents f m))) (rw e at (reference-attrs _ s f (field-reference f m)))
 
-    pub well-output : f .tag ≡ 8 → Well (textCount s) (attrsAt s (f .at + 9))
+    pub well-output : f .tag ≡ boundaryOutputTag → Well (textCount s) (attrsAt s (f .at + boundaryOutputAttrs))
     unfolding attrsOffset
     well-output e = well-of _ _ (rw e at (contents-attrs s f (field-contents f m))) (rw e at (reference-attrs _ s f (field-reference f m)))
 
   image-well : All (Well (textCount s)) (slotsOf (modelOf s))
   unfolding connectorAt boundaryOutputAt
   image-well = all-slots (Well (textCount s)) s (well-none (textCount s))
-      (λ i l. let k = rw (connectors-length s) at l in well-connector (nth 4 s i) (nth-mem 4 s i k) (nth-tag 4 s i k))
-      (λ i l. let k = rw (outputs-length s) at l in well-output (nth 8 s i) (nth-mem 8 s i k) (nth-tag 8 s i k))
+      (λ i l. let k = rw (connectors-length s) at l in well-connector (nth connectorTag s i) (nth-mem connectorTag s i k) (nth-tag connectorTag s i k))
+      (λ i l. let k = rw (outputs-length s) at l in well-output (nth boundaryOutputTag s i) (nth-mem boundaryOutputTag s i k) (nth-tag boundaryOutputTag s i k))
 
   pub filled-well : (n : ℕ) → All (Well (textCount s)) (filledTo (modelOf s) n)
   filled-well n = filledTo-keeps (Well (textCount s)) (Ok (textCount s)) (put-well (textCount s)) (value-text (textCount s)) (modelOf s) n image-well

@@ -1,6 +1,6 @@
 -- The slots of a model are its connectors' and boundary outputs' attributes: six numbers, each of its width. The image has it so, and rule 6 keeps it.
 -- Assumes nothing.
-use Prim.Native.Nat.{ℕ, _+_, _-_, _<_, _≤_}
+use Prim.Native.Nat.{ℕ, _+_, _-_, _≤_, _<_}
 use native.Mathlib.Decide.{ℕ-discrete, decLt}
 use native.Mathlib.Omega.{arith}
 use mathlib.Core.Path.{_≡_, refl, ap, _∙_}
@@ -11,14 +11,15 @@ use lib.ListN.{length, getD, set, length-map, List·getD-append, List·getD-map,
 use lib.Seq.{getD-set-same, getD-set-other, set-out, getD-append-add}
 use lib.Dec.{eqb}
 use Rattle.numbers.specs.Bytes.{bit}
+use Rattle.oce_model.specs.Format.{boundaryOutputTag, connectorAttrs, connectorTag}
 use Rattle.oce_model.specs.Attributes.{Attrs, attrsAt, declareAt, declaredAt, marked, noAttrs, num}
 use Rattle.oce_model.specs.Model.{BoundaryOutput, Connector, Model, boundaryOutput, boundaryOutputAt, boundaryOutputCount, connector, connectorAt, connectorCount, modelOf, noBoundaryOutput, noConnector}
 use Rattle.unify.specs.Slots.{Slots, bitOf, kindOf, put, putAt, slot, slotsOf, value}
 use Rattle.unify.specs.Unify.{filledTo}
+use Rattle.moved.specs.Moved.{Bytes}
 use Rattle.oce_model.proofs.Accepted.{connector-is, output-is}
 use Rattle.oce_model.proofs.Attributes.{Caps, at-caps, cap, no-caps}
 use Rattle.oce_model.proofs.Fields.{nth}
-use Rattle.moved.specs.Moved.{Bytes}
 use Rattle.moved.proofs.Invariants.{All, filledTo-keeps}
 use Rattle.moved.proofs.OneDetail.{Roomy}
 use Rattle.moved.proofs.Untouched.{slots-length}
@@ -75,7 +76,7 @@ filledTo-caps = filledTo-keeps Caps (λ p v. v < cap p) put-caps value-cap
 
 con-caps : (s : List ℕ) (at : ℕ) → Bytes s → Caps (connectorAt s at .attrs)
 unfolding connectorAt
-con-caps s at h = at-caps s (at + 19) h
+con-caps s at h = at-caps s (at + connectorAttrs) h
 
 out-caps : (s : List ℕ) (at : ℕ) → Bytes s → Caps (boundaryOutputAt s at .attrs)
 unfolding boundaryOutputAt
@@ -86,8 +87,8 @@ unfolding slot
 slot-beyond m i l = List·getD-eq-default (slotsOf m) noAttrs l
 
 -- what the attributes of all records have, all slots have
-pub all-slots : (P : Attrs → Type 0) (s : List ℕ) → P noAttrs → ((i : ℕ) → i < connectorCount (modelOf s) → P (connectorAt s (nth 4 s i .at) .attrs))
-    → ((i : ℕ) → i < boundaryOutputCount (modelOf s) → P (boundaryOutputAt s (nth 8 s i .at) .attrs)) → All P (slotsOf (modelOf s))
+pub all-slots : (P : Attrs → Type 0) (s : List ℕ) → P noAttrs → ((i : ℕ) → i < connectorCount (modelOf s) → P (connectorAt s (nth connectorTag s i .at) .attrs))
+    → ((i : ℕ) → i < boundaryOutputCount (modelOf s) → P (boundaryOutputAt s (nth boundaryOutputTag s i .at) .attrs)) → All P (slotsOf (modelOf s))
 all-slots P s absent con out = record { at = λ i. arm i (decLt i (connectorCount m)) (decLt (i - connectorCount m) (boundaryOutputCount m)) }
   where
     m : Model
@@ -101,7 +102,7 @@ all-slots P s absent con out = record { at = λ i. arm i (decLt i (connectorCoun
     arm i (no l) (no k) = rw (slot-beyond m i (omega (arith, slots-length m))) absent
 
 pub image-caps : (s : List ℕ) → Bytes s → AllCaps (slotsOf (modelOf s))
-image-caps s bytes = all-slots Caps s no-caps (λ i l. con-caps s (nth 4 s i .at) bytes) (λ i l. out-caps s (nth 8 s i .at) bytes)
+image-caps s bytes = all-slots Caps s no-caps (λ i l. con-caps s (nth connectorTag s i .at) bytes) (λ i l. out-caps s (nth boundaryOutputTag s i .at) bytes)
 
 -- ---- six numbers
 
@@ -109,17 +110,17 @@ six-at : (s : List ℕ) (at : ℕ) → (length (connectorAt s at .attrs .nums) �
 unfolding connectorAt boundaryOutputAt attrsAt
 six-at s at = (refl, refl)
 
-pub six-places : (s : List ℕ) (i : ℕ) → i < connectorCount (modelOf s) + boundaryOutputCount (modelOf s) → length (slot (slotsOf (modelOf s)) i .nums) ≡ 6
-six-places s i l = arm (decLt i (connectorCount m))
+pub six-numbers : (s : List ℕ) (i : ℕ) → i < connectorCount (modelOf s) + boundaryOutputCount (modelOf s) → length (slot (slotsOf (modelOf s)) i .nums) ≡ 6
+six-numbers s i l = arm (decLt i (connectorCount m))
   where
     m : Model
     m = modelOf s
 
     arm : Dec (i < connectorCount m) → length (slot (slotsOf m) i .nums) ≡ 6
-    arm (yes k) = rw (slot-connector m i k, connector-is s i k) (six-at s (nth 4 s i .at) .0)
+    arm (yes k) = rw (slot-connector m i k, connector-is s i k) (six-at s (nth connectorTag s i .at) .0)
     arm (no k) =
         let e : i ≡ connectorCount m + (i - connectorCount m) = omega arith in
-        rw (ap (slot (slotsOf m)) e ∙ slot-out m (i - connectorCount m), output-is s (i - connectorCount m) (omega arith)) (six-at s (nth 8 s (i - connectorCount m) .at) .1)
+        rw (ap (slot (slotsOf m)) e ∙ slot-out m (i - connectorCount m), output-is s (i - connectorCount m) (omega arith)) (six-at s (nth boundaryOutputTag s (i - connectorCount m) .at) .1)
 
 pub image-roomy : (s : List ℕ) → Roomy (slotsOf (modelOf s))
-image-roomy s = record { at = λ i l. let e = six-places s i (rw (slots-length (modelOf s)) at l) in omega arith }
+image-roomy s = record { at = λ i l. let e = six-numbers s i (rw (slots-length (modelOf s)) at l) in omega arith }

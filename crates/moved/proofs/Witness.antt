@@ -24,7 +24,7 @@ use Rattle.crossed_bounds.specs.declared.Range.the-variants.{Within}
 use Rattle.outcome.specs.Filled.{filledOf}
 use Rattle.outcome.specs.Answer.{reportOf, answer}
 use Rattle.outcome.specs.declared.Answer.the-variants.{Checked}
-use Rattle.moved.specs.Moved.{arrivals, delivered, OfTypes, Bytes, Clean, Wired}
+use Rattle.moved.specs.Moved.{OfTypes, Bytes, Clean, Wired, arrivals, delivered}
 use Rattle.moved.specs.Witness.{image, filledImage, unlike, witnessed}
 use Rattle.moved.specs.Computed.{computed}
 use Rattle.base.proofs.Lists.{all-getD}
@@ -72,6 +72,7 @@ witness-computed = record {
   delivers = λ x. refl;
 }
 
+-- it meets all premises
 pub witness : Clean image
 witness = record {
   bytes = all-bytes image (witness-computed .bytes);

@@ -1,21 +1,21 @@
 -- What it says of an image that it isn't turned away, how long its fields are, and the records of its model as fields.
 -- Assumes nothing.
-use mathlib.Core.Logic.{_≢_}
-use Prim.Native.Nat.{_+_, _*_, ℕ, zero, suc, _<_, _≤_}
-use borrow.Author.Tests.{ne-eqb, not-false, eqb-true, leb-true, ltb-false}
-use mathlib.Core.Path.{sym, _∙_, ap, _≡_, refl}
+use Prim.Native.Nat.{ℕ, zero, suc, _+_, _*_, _≤_, _<_}
 use native.Mathlib.Omega.{arith}
+use mathlib.Core.Logic.{_≢_}
+use mathlib.Core.Path.{_≡_, refl, sym, ap, _∙_}
 use mathlib.Core.Bool.{Bool, true, false, cond, not, _||_}
 use mathlib.Core.List.{List, List·Memᴰ}
 use mathlib.Core.Option.{none, some, Option·some-ne-none, Option}
 use lib.ListN.{length, length-map}
 use lib.Dec.{leb, eqb, ltb}
-use Rattle.numbers.specs.Bytes.{byte, le16}
-use Rattle.oce_model.specs.Format.{fixedLength}
-use Rattle.oce_model.specs.declared.Field.{Field}
-use Rattle.oce_model.specs.Image.{fieldAt, fieldEnd, fields, first, ofTag, stop, stopFrom}
-use Rattle.oce_model.specs.Model.{boundaryInput, boundaryInputAt, boundaryInputCount, boundaryOutput, boundaryOutputAt, boundaryOutputCount, connection, connectionAt, connectionCount, connector, connectorAt, connectorCount, modelOf, noBoundaryInput, noBoundaryOutput, noConnection, noConnector}
+use borrow.Author.Tests.{ne-eqb, not-false, eqb-true, leb-true, ltb-false}
+use Rattle.numbers.specs.Bytes.{byte}
+use Rattle.oce_model.specs.Format.{blockTag, boundaryInputTag, boundaryOutputTag, connectionTag, connectorTag, externalInputTag, headTag, highestTag, textTag, fixedLength}
+use Rattle.oce_model.specs.Image.{fieldAt, fieldEnd, fields, ofTag, stop, stopFrom}
+use Rattle.oce_model.specs.Model.{inputCountAt, outputCountAt, boundaryInput, boundaryInputAt, boundaryInputCount, boundaryOutput, boundaryOutputAt, boundaryOutputCount, connection, connectionAt, connectionCount, connector, connectorAt, connectorCount, modelOf, noBoundaryInput, noBoundaryOutput, noConnection, noConnector}
 use Rattle.oce_model.specs.Refusals.{Refusal, badBlockLength, badContents, badLength, badReference, badTag, badText, fault, refusal, refusalsFrom, refusedAt, tagIsBad, tooMany}
+use Rattle.oce_model.specs.declared.Field.{Field}
 use Rattle.base.proofs.Lists.{or-parts}
 use Rattle.base.proofs.Members.{getD-map}
 use Rattle.oce_model.proofs.Fields.{None, none-mem, none-of, nth}
@@ -31,7 +31,7 @@ pub record Accepted (s : List ℕ) : Type 0 where
   pub counts : None tooMany (fields s)
   pub contents : None (badContents s) (fields s)
   pub texts : None (badText s) (fields s)
-  pub numbers : None (badReference (length (ofTag 2 (fields s))) s) (fields s)
+  pub numbers : None (badReference (length (ofTag textTag (fields s))) s) (fields s)
 
 stop-from : (k : ℕ) (s : List ℕ) (at : ℕ) → at ≤ length s → stopFrom k s at ≤ length s
 unfolding stopFrom
@@ -78,89 +78,89 @@ accepted s h =
       counts = none-of tooMany (fields s) (r5 .0);
       contents = none-of (badContents s) (fields s) (r6 .0);
       texts = none-of (badText s) (fields s) (r7 .0);
-      numbers = none-of (badReference (length (ofTag 2 (fields s))) s) (fields s) (r8 .0);
+      numbers = none-of (badReference (length (ofTag textTag (fields s))) s) (fields s) (r8 .0);
     }
 
 -- ---- records by number
 
-pub connectors-length : (s : List ℕ) → connectorCount (modelOf s) ≡ length (ofTag 4 (fields s))
+pub connectors-length : (s : List ℕ) → connectorCount (modelOf s) ≡ length (ofTag connectorTag (fields s))
 unfolding modelOf
-connectors-length s = length-map (ofTag 4 (fields s)) (λ f. connectorAt s (f .at))
+connectors-length s = length-map (ofTag connectorTag (fields s)) (λ f. connectorAt s (f .at))
 
-pub outputs-length : (s : List ℕ) → boundaryOutputCount (modelOf s) ≡ length (ofTag 8 (fields s))
+pub outputs-length : (s : List ℕ) → boundaryOutputCount (modelOf s) ≡ length (ofTag boundaryOutputTag (fields s))
 unfolding modelOf
-outputs-length s = length-map (ofTag 8 (fields s)) (λ f. boundaryOutputAt s (f .at))
+outputs-length s = length-map (ofTag boundaryOutputTag (fields s)) (λ f. boundaryOutputAt s (f .at))
 
-pub connector-is : (s : List ℕ) (i : ℕ) → i < connectorCount (modelOf s) → connector (modelOf s) i ≡ connectorAt s (nth 4 s i .at)
+pub connector-is : (s : List ℕ) (i : ℕ) → i < connectorCount (modelOf s) → connector (modelOf s) i ≡ connectorAt s (nth connectorTag s i .at)
 unfolding connector modelOf
-connector-is s i l = getD-map (λ (f : Field). connectorAt s (f .at)) (ofTag 4 (fields s)) i (fieldAt s 0 0 0) noConnector (rw length-map at l)
+connector-is s i l = getD-map (λ (f : Field). connectorAt s (f .at)) (ofTag connectorTag (fields s)) i (fieldAt s 0 0 0) noConnector (rw length-map at l)
 
-pub output-is : (s : List ℕ) (i : ℕ) → i < boundaryOutputCount (modelOf s) → boundaryOutput (modelOf s) i ≡ boundaryOutputAt s (nth 8 s i .at)
+pub output-is : (s : List ℕ) (i : ℕ) → i < boundaryOutputCount (modelOf s) → boundaryOutput (modelOf s) i ≡ boundaryOutputAt s (nth boundaryOutputTag s i .at)
 unfolding boundaryOutput modelOf
-output-is s i l = getD-map (λ (f : Field). boundaryOutputAt s (f .at)) (ofTag 8 (fields s)) i (fieldAt s 0 0 0) noBoundaryOutput (rw length-map at l)
+output-is s i l = getD-map (λ (f : Field). boundaryOutputAt s (f .at)) (ofTag boundaryOutputTag (fields s)) i (fieldAt s 0 0 0) noBoundaryOutput (rw length-map at l)
 
-pub connections-length : (s : List ℕ) → connectionCount (modelOf s) ≡ length (ofTag 5 (fields s))
+pub connections-length : (s : List ℕ) → connectionCount (modelOf s) ≡ length (ofTag connectionTag (fields s))
 unfolding modelOf
-connections-length s = length-map (ofTag 5 (fields s)) (λ f. connectionAt s (f .at))
+connections-length s = length-map (ofTag connectionTag (fields s)) (λ f. connectionAt s (f .at))
 
-pub connection-is : (s : List ℕ) (i : ℕ) → i < connectionCount (modelOf s) → connection (modelOf s) i ≡ connectionAt s (nth 5 s i .at)
+pub connection-is : (s : List ℕ) (i : ℕ) → i < connectionCount (modelOf s) → connection (modelOf s) i ≡ connectionAt s (nth connectionTag s i .at)
 unfolding connection modelOf
-connection-is s i l = getD-map (λ (f : Field). connectionAt s (f .at)) (ofTag 5 (fields s)) i (fieldAt s 0 0 0) noConnection (rw length-map at l)
+connection-is s i l = getD-map (λ (f : Field). connectionAt s (f .at)) (ofTag connectionTag (fields s)) i (fieldAt s 0 0 0) noConnection (rw length-map at l)
 
-pub inputs-length : (s : List ℕ) → boundaryInputCount (modelOf s) ≡ length (ofTag 7 (fields s))
+pub inputs-length : (s : List ℕ) → boundaryInputCount (modelOf s) ≡ length (ofTag boundaryInputTag (fields s))
 unfolding modelOf
-inputs-length s = length-map (ofTag 7 (fields s)) (λ f. boundaryInputAt s (f .at))
+inputs-length s = length-map (ofTag boundaryInputTag (fields s)) (λ f. boundaryInputAt s (f .at))
 
-pub input-is : (s : List ℕ) (i : ℕ) → i < boundaryInputCount (modelOf s) → boundaryInput (modelOf s) i ≡ boundaryInputAt s (nth 7 s i .at)
+pub input-is : (s : List ℕ) (i : ℕ) → i < boundaryInputCount (modelOf s) → boundaryInput (modelOf s) i ≡ boundaryInputAt s (nth boundaryInputTag s i .at)
 unfolding boundaryInput modelOf
-input-is s i l = getD-map (λ (f : Field). boundaryInputAt s (f .at)) (ofTag 7 (fields s)) i (fieldAt s 0 0 0) noBoundaryInput (rw length-map at l)
+input-is s i l = getD-map (λ (f : Field). boundaryInputAt s (f .at)) (ofTag boundaryInputTag (fields s)) i (fieldAt s 0 0 0) noBoundaryInput (rw length-map at l)
 
 -- ---- lengths
 
 -- a field that is neither a text nor a block has the length of its tag
-pub fixed-length : (s : List ℕ) (f : Field) → f .tag ≢ 2 → f .tag ≢ 3 → badLength s f ≡ false → f .len ≡ fixedLength (f .tag)
+pub fixed-length : (s : List ℕ) (f : Field) → f .tag ≢ textTag → f .tag ≢ blockTag → badLength s f ≡ false → f .len ≡ fixedLength (f .tag)
 unfolding badLength
-fixed-length s f n o h = eqb-true _ _ (not-false _ (rw (ne-eqb (f .tag) 2 n, ne-eqb (f .tag) 3 o) at h))
+fixed-length s f n o h = eqb-true _ _ (not-false _ (rw (ne-eqb (f .tag) textTag n, ne-eqb (f .tag) blockTag o) at h))
 
-pub block-length : (s : List ℕ) (f : Field) → f .tag ≡ 3 → badLength s f ≡ false → f .len ≡ 10 + 4 * (le16 s (f .at + 9) + le16 s (f .at + 11))
+pub block-length : (s : List ℕ) (f : Field) → f .tag ≡ blockTag → badLength s f ≡ false → f .len ≡ 10 + 4 * (inputCountAt s (f .at) + outputCountAt s (f .at))
 unfolding badLength badBlockLength
 block-length s f e h =
     let g = rw e at h in
     let n = f .len in
-    let m = 10 + 4 * (le16 s (f .at + 9) + le16 s (f .at + 11)) in
-    let a = ltb 256 (le16 s (f .at + 9)) in
-    let b = ltb 256 (le16 s (f .at + 11)) in
+    let m = 10 + 4 * (inputCountAt s (f .at) + outputCountAt s (f .at)) in
+    let a = ltb 256 (inputCountAt s (f .at)) in
+    let b = ltb 256 (outputCountAt s (f .at)) in
     eqb-true n m (not-false (eqb n m) (or-parts (not (eqb n m)) a (or-parts (not (eqb n m) || a) b g .0) .0))
 
 module _ (s : List ℕ) (acc : Accepted s) where
-  fixed : (f : Field) → List·Memᴰ f (fields s) → (t : ℕ) → f .tag ≡ t → t ≢ 2 → t ≢ 3 → f .len ≡ fixedLength t
+  fixed : (f : Field) → List·Memᴰ f (fields s) → (t : ℕ) → f .tag ≡ t → t ≢ textTag → t ≢ blockTag → f .len ≡ fixedLength t
   fixed f m t e n o =
       fixed-length s f (λ q. n (sym e ∙ q)) (λ q. o (sym e ∙ q)) (none-mem (badLength s) (fields s) (acc .lengths) f m) ∙ ap fixedLength e
 
-  pub head-len : (f : Field) → List·Memᴰ f (fields s) → f .tag ≡ 1 → f .len ≡ 20
+  pub head-len : (f : Field) → List·Memᴰ f (fields s) → f .tag ≡ headTag → f .len ≡ 20
   unfolding fixedLength
   head-len f m e = fixed f m 1 e (omega arith) (omega arith)
 
-  pub block-len : (f : Field) → List·Memᴰ f (fields s) → f .tag ≡ 3 → f .len ≡ 10 + 4 * (le16 s (f .at + 9) + le16 s (f .at + 11))
+  pub block-len : (f : Field) → List·Memᴰ f (fields s) → f .tag ≡ blockTag → f .len ≡ 10 + 4 * (inputCountAt s (f .at) + outputCountAt s (f .at))
   block-len f m e = block-length s f e (none-mem (badLength s) (fields s) (acc .lengths) f m)
 
-  pub connector-len : (f : Field) → List·Memᴰ f (fields s) → f .tag ≡ 4 → f .len ≡ 48
+  pub connector-len : (f : Field) → List·Memᴰ f (fields s) → f .tag ≡ connectorTag → f .len ≡ 48
   unfolding fixedLength
   connector-len f m e = fixed f m 4 e (omega arith) (omega arith)
 
-  pub connection-len : (f : Field) → List·Memᴰ f (fields s) → f .tag ≡ 5 → f .len ≡ 8
+  pub connection-len : (f : Field) → List·Memᴰ f (fields s) → f .tag ≡ connectionTag → f .len ≡ 8
   unfolding fixedLength
   connection-len f m e = fixed f m 5 e (omega arith) (omega arith)
 
-  pub external-len : (f : Field) → List·Memᴰ f (fields s) → f .tag ≡ 6 → f .len ≡ 4
+  pub external-len : (f : Field) → List·Memᴰ f (fields s) → f .tag ≡ externalInputTag → f .len ≡ 4
   unfolding fixedLength
   external-len f m e = fixed f m 6 e (omega arith) (omega arith)
 
-  pub input-len : (f : Field) → List·Memᴰ f (fields s) → f .tag ≡ 7 → f .len ≡ 34
+  pub input-len : (f : Field) → List·Memᴰ f (fields s) → f .tag ≡ boundaryInputTag → f .len ≡ 34
   unfolding fixedLength
   input-len f m e = fixed f m 7 e (omega arith) (omega arith)
 
-  pub output-len : (f : Field) → List·Memᴰ f (fields s) → f .tag ≡ 8 → f .len ≡ 38
+  pub output-len : (f : Field) → List·Memᴰ f (fields s) → f .tag ≡ boundaryOutputTag → f .len ≡ 38
   unfolding fixedLength
   output-len f m e = fixed f m 8 e (omega arith) (omega arith)
 
@@ -169,4 +169,4 @@ module _ (s : List ℕ) (acc : Accepted s) where
   unfolding badTag tagIsBad fieldAt
   head-first o m =
       eqb-true (byte s 0) 1
-      (not-false _ (or-parts (eqb (byte s 0) 0 || ltb 8 (byte s 0) || ltb (byte s 0) 0) _ (none-mem badTag (fields s) (acc .tags) (fieldAt s 0 0 o) m) .1))
+      (not-false _ (or-parts (eqb (byte s 0) 0 || ltb highestTag (byte s 0) || ltb (byte s 0) 0) _ (none-mem badTag (fields s) (acc .tags) (fieldAt s 0 0 o) m) .1))

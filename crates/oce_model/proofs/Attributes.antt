@@ -1,21 +1,23 @@
 -- Attributes written as 32 bytes and read back, and the other way round.
 -- Assumes nothing.
-use Prim.Native.Nat.{_+_, ℕ, zero, suc, _<_, _≤_, _^_}
-use borrow.Author.Tests.{le-ltb}
-use mathlib.Core.Path.{sym, _∙_, ap, _≡_, refl}
+use Prim.Native.Nat.{ℕ, zero, suc, _+_, _^_, _≤_, _<_}
 use native.Mathlib.Nat.{add-zero}
 use native.Mathlib.Omega.{arith}
+use mathlib.Core.Path.{_≡_, refl, sym, ap, _∙_}
 use mathlib.Core.Bool.{Bool, true, false, cond}
 use mathlib.Core.List.{List, [], _∷_, _++_}
 use lib.ListN.{length, getD, take, drop}
 use lib.Dec.{ltb}
 use lib.Seq.{drop-cons, drop-drop, take-add}
+use borrow.Author.Tests.{le-ltb}
 use Rattle.numbers.specs.Bytes.{byte, le, leBytes}
+use Rattle.oce_model.specs.Format.{attrsLength}
 use Rattle.oce_model.specs.Attributes.{Attrs, attrsAt, attrsBytes, noAttrs, num}
 use Rattle.numbers.proofs.Bytes.{bytes-le, le-bytes, le-fits, le-same}
 
 -- ---- each number has its width
 
+-- what a number under bit p stays below: a text number has two bytes, others have eight
 unfoldable pub cap : ℕ → ℕ
 cap p = cond (ltb p 3) (256 ^ 2) (256 ^ 8)
 
@@ -45,11 +47,11 @@ no-caps = record { at = λ p. arm p (ltb p 3) }
 
 -- ---- written and read back
 
-pub bytes-length : (a : Attrs) → length (attrsBytes a) ≡ 32
+pub bytes-length : (a : Attrs) → length (attrsBytes a) ≡ attrsLength
 unfolding attrsBytes leBytes
 bytes-length a = refl
 
--- attributes come back from their bytes
+-- six numbers
 module _ (k m n₀ n₁ n₂ n₃ n₄ n₅ : ℕ) where
   unfoldable pub six : Attrs
   six = record { kind = k; marks = m; nums = n₀ ∷ n₁ ∷ n₂ ∷ n₃ ∷ n₄ ∷ n₅ ∷ [] }
@@ -86,8 +88,8 @@ module _ (k m n₀ n₁ n₂ n₃ n₄ n₅ : ℕ) where
   unfolding six attrsBytes le leBytes
   place₅ h = le-bytes 8 n₅ [] h
 
-  module _ (t : List ℕ) (at : ℕ) (h : (i : ℕ) → i < 32 → byte t (at + i) ≡ byte (attrsBytes six) i) where
-    back : (w o : ℕ) → o + w ≤ 32 → le w t (at + o) ≡ le w (attrsBytes six) o
+  module _ (t : List ℕ) (at : ℕ) (h : (i : ℕ) → i < attrsLength → byte t (at + i) ≡ byte (attrsBytes six) i) where
+    back : (w o : ℕ) → o + w ≤ attrsLength → le w t (at + o) ≡ le w (attrsBytes six) o
     back w o l = le-same w t (attrsBytes six) (at + o) o (λ i k. ap (λ n. byte t n) (right i) ∙ h (o + i) (omega arith))
       where
         right : (i : ℕ) → at + o + i ≡ at + (o + i)
@@ -111,7 +113,7 @@ module _ (k m n₀ n₁ n₂ n₃ n₄ n₅ : ℕ) where
         kind-back = rw add-zero at (h 0 (omega arith))
 
 -- attributes come back from their 32 bytes
-pub attrs-again : (t : List ℕ) (at : ℕ) (a : Attrs) → length (a .nums) ≡ 6 → Caps a → ((i : ℕ) → i < 32 → byte t (at + i) ≡ byte (attrsBytes a) i) → attrsAt t at ≡ a
+pub attrs-again : (t : List ℕ) (at : ℕ) (a : Attrs) → length (a .nums) ≡ 6 → Caps a → ((i : ℕ) → i < attrsLength → byte t (at + i) ≡ byte (attrsBytes a) i) → attrsAt t at ≡ a
 unfolding six cap
 attrs-again t at a l c h = arm (a .nums) l (c .at) h
   where
@@ -121,7 +123,7 @@ attrs-again t at a l c h = arm (a .nums) l (c .at) h
     m : ℕ
     m = a .marks
 
-    arm : (ns : List ℕ) → length ns ≡ 6 → ((p : ℕ) → getD ns p 0 < cap p) → ((i : ℕ) → i < 32 → byte t (at + i) ≡ byte (attrsBytes (record { kind = k; marks = m; nums = ns })) i)
+    arm : (ns : List ℕ) → length ns ≡ 6 → ((p : ℕ) → getD ns p 0 < cap p) → ((i : ℕ) → i < attrsLength → byte t (at + i) ≡ byte (attrsBytes (record { kind = k; marks = m; nums = ns })) i)
         → attrsAt t at ≡ record { kind = k; marks = m; nums = ns }
     arm [] l c h = absurd (omega arith)
     arm (a ∷ []) l c h = absurd (omega arith)
@@ -133,12 +135,12 @@ attrs-again t at a l c h = arm (a .nums) l (c .at) h
     arm (a ∷ b ∷ d ∷ e ∷ f ∷ g ∷ x ∷ xs) l c h = absurd (omega arith)
 
 -- where 32 bytes are the same, so are the attributes
-pub attrs-same : (s t : List ℕ) (at : ℕ) → ((x : ℕ) → at ≤ x → x < at + 32 → byte t x ≡ byte s x) → attrsAt t at ≡ attrsAt s at
+pub attrs-same : (s t : List ℕ) (at : ℕ) → ((x : ℕ) → at ≤ x → x < at + attrsLength → byte t x ≡ byte s x) → attrsAt t at ≡ attrsAt s at
 unfolding attrsAt
 attrs-same s t at h =
     rw (h at (omega arith) (omega arith), h (at + 1) (omega arith) (omega arith), part 2 2 (omega arith), part 2 4 (omega arith), part 2 6 (omega arith), part 8 8 (omega arith), part 8 16 (omega arith), part 8 24 (omega arith))
   where
-    part : (w o : ℕ) → o + w ≤ 32 → le w t (at + o) ≡ le w s (at + o)
+    part : (w o : ℕ) → o + w ≤ attrsLength → le w t (at + o) ≡ le w s (at + o)
     part w o l = le-same w t s (at + o) (at + o) (λ i k. h (at + o + i) (omega arith) (omega arith))
 
 -- ---- read and written back
@@ -148,7 +150,7 @@ module _ (s : List ℕ) (bytes : (i : ℕ) → byte s i < 256) where
   merge : (a b x y : ℕ) → x + a ≡ y → take a (drop x s) ++ take b (drop y s) ≡ take (a + b) (drop x s)
   merge a b x y e = rw (← e) (ap (λ r. take a (drop x s) ++ take b r) (sym (drop-drop a x s)) ∙ sym (take-add a b (drop x s)))
 
-  pub attrs-own : (at : ℕ) → at + 32 ≤ length s → attrsBytes (attrsAt s at) ≡ take 32 (drop at s)
+  pub attrs-own : (at : ℕ) → at + attrsLength ≤ length s → attrsBytes (attrsAt s at) ≡ take attrsLength (drop at s)
   unfolding attrsBytes attrsAt
   attrs-own at l =
       rw (

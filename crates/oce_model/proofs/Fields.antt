@@ -1,20 +1,20 @@
 -- The fields of an image: lists of them that pass a test or don't, those with a tag, and a walk over all of them as a loop makes it, with what is left at an offset
 -- and one field fewer at each step.
 -- Assumes nothing.
-use Prim.Native.Nat.{ℕ, zero, suc, _+_, _<_, _≤_}
+use Prim.Native.Nat.{ℕ, zero, suc, _+_, _≤_, _<_}
 use native.Mathlib.Omega.{arith}
-use mathlib.Core.Path.{_≡_, refl, ap, _∙_, sym}
-use mathlib.Core.Bool.{Bool, true, false, cond, not}
+use mathlib.Core.Path.{_≡_, refl, sym, ap, _∙_}
+use mathlib.Core.Bool.{Bool, true, false, cond}
 use mathlib.Core.List.{List, [], _∷_, List·Memᴰ, List·Memᴰ·not-nil, List·Memᴰ·head, List·Memᴰ·tail, List·Memᴰ·cases-cons}
+use mathlib.Core.Option.{none, some, Option·some-ne-none}
+use mathlib.Core.Logic.{_⊎_, inl, inr}
 use lib.ListN.{length, getD}
 use lib.Dec.{leb, eqb}
 use borrow.Author.Tests.{leb-true, lt-leb, eqb-true, eq-eqb}
-use mathlib.Core.Option.{none, some, Option·some-ne-none}
-use mathlib.Core.Logic.{_⊎_, inl, inr}
 use Rattle.base.specs.Lists.{keep}
 use Rattle.numbers.specs.Bytes.{byte, le16}
-use Rattle.oce_model.specs.declared.Field.{Field}
 use Rattle.oce_model.specs.Image.{fieldAt, fieldEnd, fields, fieldsFrom, first, ofTag, ordOf, stop, stopFrom}
+use Rattle.oce_model.specs.declared.Field.{Field}
 use Rattle.base.proofs.Members.{getD-mem}
 
 -- ---- fields that pass a test, or don't

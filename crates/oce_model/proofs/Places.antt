@@ -1,18 +1,18 @@
 -- The fields of an image stand one behind the other, up to its end: no two of them overlap, and those with a tag stand in their order.
 -- Assumes nothing.
-use mathlib.Core.Logic.{_⊎_, inl, inr}
-use Prim.Native.Nat.{_+_, ℕ, zero, suc, _<_, _≤_}
-use borrow.Author.Tests.{leb-true}
-use mathlib.Core.Path.{sym, _∙_, _≡_, refl}
+use Prim.Native.Nat.{ℕ, zero, suc, _+_, _≤_, _<_}
 use native.Mathlib.Omega.{arith}
+use mathlib.Core.Logic.{_⊎_, inl, inr}
+use mathlib.Core.Path.{_≡_, refl, sym, _∙_}
 use mathlib.Core.Bool.{Bool, true, false, cond}
 use mathlib.Core.List.{List, [], _∷_, List·Memᴰ, List·Memᴰ·not-nil, List·Memᴰ·cases-cons}
 use lib.ListN.{length, getD}
 use lib.Dec.{leb, eqb}
+use borrow.Author.Tests.{leb-true}
 use Rattle.base.specs.Lists.{keep}
 use Rattle.numbers.specs.Bytes.{byte}
+use Rattle.oce_model.specs.Image.{fieldAt, fieldEnd, fields, fieldsFrom, ofTag, ordOf}
 use Rattle.oce_model.specs.declared.Field.{Field}
-use Rattle.oce_model.specs.Image.{fieldAt, fieldEnd, fields, fieldsFrom, first, ofTag, ordOf}
 use Rattle.base.proofs.Members.{getD-mem}
 use Rattle.oce_model.proofs.Fields.{nth}
 

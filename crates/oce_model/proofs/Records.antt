@@ -14,7 +14,7 @@ use lib.ListN.{length, getD, length-map}
 use lib.Dec.{leb, eqb, ltb}
 use Rattle.base.specs.Lists.{keep}
 use Rattle.numbers.specs.Bytes.{byte}
-use Rattle.oce_model.specs.Format.{fixedLength}
+use Rattle.oce_model.specs.Format.{fixedLength, leadingBytes, textTag, blockTag, connectorTag, connectionTag, externalInputTag, boundaryInputTag, boundaryOutputTag, connectorSize, connectionSize, externalInputSize, boundaryInputSize, boundaryOutputSize}
 use Rattle.oce_model.specs.declared.Field.{Field}
 use Rattle.oce_model.specs.Image.{fieldAt, fieldEnd, fields, fieldsFrom, first, ofTag, orEnd, ordOf, startOf}
 use Rattle.oce_model.specs.Model.{boundaryInput, boundaryInputAt, boundaryInputCount, boundaryOutput, boundaryOutputAt, boundaryOutputCount, connection, connectionAt, connectionCount, connector, connectorAt, connectorCount, externalInputAt, modelOf}
@@ -120,36 +120,36 @@ module _ (s : List ℕ) (t z : ℕ) where
 
 module _ (s : List ℕ) (acc : Accepted s) where
   -- the i-th field of a kind whose length is fixed
-  pub nth-at : (t z i : ℕ) → t ≢ 2 → t ≢ 3 → 3 + fixedLength t ≡ z → i < length (ofTag t (fields s)) → nth t s i .at ≡ startOf t s + z * i
+  pub nth-at : (t z i : ℕ) → t ≢ textTag → t ≢ blockTag → leadingBytes + fixedLength t ≡ z → i < length (ofTag t (fields s)) → nth t s i .at ≡ startOf t s + z * i
   unfolding startOf fields Run
   nth-at t z i n o e l =
       begin s t z (badLength s)
       (λ f h b. ap (λ k. 3 + k) (fixed-length s f (λ q. n (sym h ∙ q)) (λ q. o (sym h ∙ q)) b ∙ ap fixedLength h) ∙ e)
       (length s) 0 0 0 (length s) (acc .tags) (acc .lengths) i (fieldAt s 0 0 0) l
 
-  pub connector-at : (i : ℕ) → i < connectorCount (modelOf s) → connector (modelOf s) i ≡ connectorAt s (startOf 4 s + 51 * i)
+  pub connector-at : (i : ℕ) → i < connectorCount (modelOf s) → connector (modelOf s) i ≡ connectorAt s (startOf connectorTag s + connectorSize * i)
   unfolding fixedLength
   connector-at i l =
-      connector-is s i l ∙ ap (connectorAt s) (nth-at 4 51 i (omega arith) (omega arith) refl (rw (connectors-length s) at l))
+      connector-is s i l ∙ ap (connectorAt s) (nth-at connectorTag connectorSize i (omega arith) (omega arith) refl (rw (connectors-length s) at l))
 
-  pub connection-at : (i : ℕ) → i < connectionCount (modelOf s) → connection (modelOf s) i ≡ connectionAt s (startOf 5 s + 11 * i)
+  pub connection-at : (i : ℕ) → i < connectionCount (modelOf s) → connection (modelOf s) i ≡ connectionAt s (startOf connectionTag s + connectionSize * i)
   unfolding fixedLength
   connection-at i l =
-      connection-is s i l ∙ ap (connectionAt s) (nth-at 5 11 i (omega arith) (omega arith) refl (rw (connections-length s) at l))
+      connection-is s i l ∙ ap (connectionAt s) (nth-at connectionTag connectionSize i (omega arith) (omega arith) refl (rw (connections-length s) at l))
 
-  pub external-at : (i d : ℕ) → i < length (modelOf s .externalInputs) → getD (modelOf s .externalInputs) i d ≡ externalInputAt s (startOf 6 s + 7 * i)
+  pub external-at : (i d : ℕ) → i < length (modelOf s .externalInputs) → getD (modelOf s .externalInputs) i d ≡ externalInputAt s (startOf externalInputTag s + externalInputSize * i)
   unfolding fixedLength modelOf
   external-at i d l =
       let k : i < length (ofTag 6 (fields s)) = rw length-map at l in
       getD-map (λ (f : Field). externalInputAt s (f .at)) (ofTag 6 (fields s)) i (fieldAt s 0 0 0) d k
-      ∙ ap (externalInputAt s) (nth-at 6 7 i (omega arith) (omega arith) refl k)
+      ∙ ap (externalInputAt s) (nth-at externalInputTag externalInputSize i (omega arith) (omega arith) refl k)
 
-  pub input-at : (i : ℕ) → i < boundaryInputCount (modelOf s) → boundaryInput (modelOf s) i ≡ boundaryInputAt s (startOf 7 s + 37 * i)
+  pub input-at : (i : ℕ) → i < boundaryInputCount (modelOf s) → boundaryInput (modelOf s) i ≡ boundaryInputAt s (startOf boundaryInputTag s + boundaryInputSize * i)
   unfolding fixedLength
   input-at i l =
-      input-is s i l ∙ ap (boundaryInputAt s) (nth-at 7 37 i (omega arith) (omega arith) refl (rw (inputs-length s) at l))
+      input-is s i l ∙ ap (boundaryInputAt s) (nth-at boundaryInputTag boundaryInputSize i (omega arith) (omega arith) refl (rw (inputs-length s) at l))
 
-  pub output-at : (i : ℕ) → i < boundaryOutputCount (modelOf s) → boundaryOutput (modelOf s) i ≡ boundaryOutputAt s (startOf 8 s + 41 * i)
+  pub output-at : (i : ℕ) → i < boundaryOutputCount (modelOf s) → boundaryOutput (modelOf s) i ≡ boundaryOutputAt s (startOf boundaryOutputTag s + boundaryOutputSize * i)
   unfolding fixedLength
   output-at i l =
-      output-is s i l ∙ ap (boundaryOutputAt s) (nth-at 8 41 i (omega arith) (omega arith) refl (rw (outputs-length s) at l))
+      output-is s i l ∙ ap (boundaryOutputAt s) (nth-at boundaryOutputTag boundaryOutputSize i (omega arith) (omega arith) refl (rw (outputs-length s) at l))

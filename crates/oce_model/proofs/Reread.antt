@@ -1,17 +1,17 @@
 -- An image whose fields' three leading bytes are unchanged has the same fields.
 -- Assumes nothing.
-use Prim.Native.Nat.{_+_, ℕ, zero, suc, _<_, _≤_}
-use borrow.Author.Tests.{lt-leb}
-use mathlib.Core.Path.{sym, _∙_, ap, _≡_, refl}
+use Prim.Native.Nat.{ℕ, zero, suc, _+_, _≤_, _<_}
 use native.Mathlib.Nat.{add-zero}
 use native.Mathlib.Omega.{arith}
+use mathlib.Core.Path.{_≡_, refl, sym, ap, _∙_}
 use mathlib.Core.Bool.{Bool, true, false, cond}
 use mathlib.Core.List.{List, [], _∷_}
 use lib.ListN.{length}
 use lib.Dec.{leb}
+use borrow.Author.Tests.{lt-leb}
 use Rattle.numbers.specs.Bytes.{byte, le16}
-use Rattle.oce_model.specs.declared.Field.{Field}
 use Rattle.oce_model.specs.Image.{fieldAt, fieldEnd, fields, fieldsFrom, ordOf, stop, stopFrom}
+use Rattle.oce_model.specs.declared.Field.{Field}
 use Rattle.numbers.proofs.Bytes.{le-same}
 use Rattle.oce_model.proofs.Fields.{fieldEnd-past}
 

@@ -57,6 +57,22 @@ mostPorts = 256
 unfoldable pub fixedLength : ℕ → ℕ
 fixedLength t = getD (0 ∷ 20 ∷ 0 ∷ 0 ∷ 48 ∷ 8 ∷ 4 ∷ 34 ∷ 38 ∷ []) t 0
 
+-- a record of each kind of fixed length, with its leading bytes
+abbrev pub connectorSize : ℕ
+connectorSize = 51
+
+abbrev pub connectionSize : ℕ
+connectionSize = 11
+
+abbrev pub externalInputSize : ℕ
+externalInputSize = 7
+
+abbrev pub boundaryInputSize : ℕ
+boundaryInputSize = 37
+
+abbrev pub boundaryOutputSize : ℕ
+boundaryOutputSize = 41
+
 -- ---- the whole image: a head alone has the fewest bytes
 abbrev pub shortestImage : ℕ
 shortestImage = 23
@@ -133,3 +149,7 @@ boundaryInputAttrs = 5
 
 abbrev pub boundaryOutputAttrs : ℕ
 boundaryOutputAttrs = 9
+
+-- ---- where the ids of a block's ports begin, from the start of its field
+abbrev pub blockPorts : ℕ
+blockPorts = 13

@@ -8,7 +8,7 @@ use lib.Dec.{eqb, ltb}
 use lib.IntN.{ℤ}
 use Rattle.base.specs.Lists.{tab}
 use Rattle.numbers.specs.Bytes.{byte, le16, le32, le64, signed64}
-use Rattle.oce_model.specs.Format.{textTag, blockTag, connectorTag, connectionTag, externalInputTag, boundaryInputTag, boundaryOutputTag, portLength, dirIn, connectorAttrs, boundaryInputAttrs, boundaryOutputAttrs}
+use Rattle.oce_model.specs.Format.{textTag, blockTag, connectorTag, connectionTag, externalInputTag, boundaryInputTag, boundaryOutputTag, portLength, blockPorts, dirIn, connectorAttrs, boundaryInputAttrs, boundaryOutputAttrs}
 use Rattle.oce_model.specs.Attributes.{Attrs, noAttrs, attrsAt}
 use Rattle.oce_model.specs.Image.{Field, fields, ofTag}
 use Rattle.oce_model.specs.Texts.{textOf}
@@ -71,8 +71,8 @@ unfoldable pub blockAt : List ℕ → ℕ → Block
 blockAt s at = record {
   id = le32 s (at + 3);
   instanceIri = le16 s (at + 7);
-  inputs = idsAt s (at + 13) (inputCountAt s at);
-  outputs = idsAt s (at + 13 + portLength * inputCountAt s at) (outputCountAt s at);
+  inputs = idsAt s (at + blockPorts) (inputCountAt s at);
+  outputs = idsAt s (at + blockPorts + portLength * inputCountAt s at) (outputCountAt s at);
 }
 
 -- id 4, block 4, direction 1, type 1, enum class 4, iri text 2, attributes 32

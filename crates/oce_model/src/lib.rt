@@ -27,39 +27,81 @@ pub struct Connection {
 // ---- the numbers of the format that code cites, by the names of specs/Format.antt
 
 pub const LEADING_BYTES: usize = 3;
+
 pub const HEAD_TAG: usize = 1;
+
 pub const TEXT_TAG: usize = 2;
+
 pub const BLOCK_TAG: usize = 3;
+
 pub const CONNECTOR_TAG: usize = 4;
+
 pub const CONNECTION_TAG: usize = 5;
+
 pub const EXTERNAL_INPUT_TAG: usize = 6;
+
 pub const BOUNDARY_INPUT_TAG: usize = 7;
+
 pub const BOUNDARY_OUTPUT_TAG: usize = 8;
+
 pub const HIGHEST_TAG: usize = BOUNDARY_OUTPUT_TAG;
 
 pub const LONGEST_TEXT: usize = 255;
+
 pub const BLOCK_LENGTH: usize = 10;
+
 pub const PORT_LENGTH: usize = 4;
+
 pub const MOST_PORTS: usize = 256;
+
 pub const SHORTEST_IMAGE: usize = 23;
+
 pub const LONGEST_IMAGE: usize = 65535;
+
 pub const VERSION: usize = 1;
 
 pub const REAL_KIND: usize = 0;
+
 pub const INTEGER_KIND: usize = 1;
+
 pub const ENUM_KIND: usize = 4;
+
 pub const DIR_OUT: usize = 1;
+
 pub const NO_TEXT: usize = 65535;
 
 pub const QUANTITY_BIT: usize = 0;
+
 pub const UNIT_BIT: usize = 1;
+
 pub const DISPLAY_UNIT_BIT: usize = 2;
+
 pub const MIN_BIT: usize = 3;
+
 pub const MAX_BIT: usize = 4;
+
 pub const NOMINAL_BIT: usize = 5;
+
 pub const UNBOUNDED_BIT: usize = 6;
+
 pub const UNBOUNDED_VALUE_BIT: usize = 7;
 
 pub const CONNECTOR_ATTRS: usize = 19;
+
 pub const BOUNDARY_INPUT_ATTRS: usize = 5;
+
 pub const BOUNDARY_OUTPUT_ATTRS: usize = 9;
+
+// a record of each kind of fixed size, with its leading bytes
+pub const CONNECTOR_SIZE: usize = 51;
+
+pub const CONNECTION_SIZE: usize = 11;
+
+pub const EXTERNAL_INPUT_SIZE: usize = 7;
+
+pub const BOUNDARY_INPUT_SIZE: usize = 37;
+
+pub const BOUNDARY_OUTPUT_SIZE: usize = 41;
+
+// where the ids of a block's ports begin, from the start of its field
+pub const BLOCK_PORTS: usize = 13;
