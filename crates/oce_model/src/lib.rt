@@ -18,6 +18,53 @@ pub struct Field {
     pub ord: usize,
 }
 
+// The Rust's `BlockId` and `ConnectorId`: numbers of blocks and of connectors, kept apart.
+pub struct BlockId(pub u32);
+
+pub struct ConnectorId(pub u32);
+
+// The Rust's `BlockInstance`: its id, its instance text, and how many inputs and outputs it has.
+pub struct Block {
+    pub id: BlockId,
+    pub instance: usize,
+    pub inputs: usize,
+    pub outputs: usize,
+}
+
+// The Rust's `Connector`, less its attributes; kind and class are its `ValueType`.
+pub struct Connector {
+    pub id: ConnectorId,
+    pub block: BlockId,
+    pub dir: usize,
+    pub kind: usize,
+    pub class: usize,
+    pub iri: usize,
+}
+
+// The Rust's `BoundaryOutput`, less its attributes.
+pub struct BoundaryOutput {
+    pub iri: usize,
+    pub source: ConnectorId,
+}
+
+// The Rust's `RealAttrs`: marks says what is set, texts are numbers.
+pub struct RealAttrs {
+    pub marks: usize,
+    pub quantity: usize,
+    pub unit: usize,
+    pub display: usize,
+    pub min: f64,
+    pub max: f64,
+    pub nominal: f64,
+}
+
+// The Rust's `IntAttrs`.
+pub struct IntAttrs {
+    pub marks: usize,
+    pub min: i64,
+    pub max: i64,
+}
+
 // The Rust's `Connection`: the numbers of two connectors.
 pub struct Connection {
     pub from: u32,

@@ -1,0 +1,15 @@
+-- `faults::too_many` meets its contract: as many stand before it as may be.
+-- Assumes nothing.
+use borrow.Author.Needs.{needs}
+use Rattle.contents.proofs.Tests.{tests}
+use Rattle.oce_model.specs.Refusals.{tooMany}
+use Rattle.faults.proofs.too_many.Statement.{statement}
+use Rattle.faults.proofs.too_many.Tie as tie
+
+pub too-many-spec : {M : Type 1} → statement M
+unfolding tooMany
+too-many-spec =
+    tie.close
+    (tie.spec
+    (λ c κs. search needs)
+    (λ c. search tests))
