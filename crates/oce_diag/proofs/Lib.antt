@@ -1,1 +1,3 @@
+pub mod Diagnostics
 pub mod Encoding
+pub mod Putting

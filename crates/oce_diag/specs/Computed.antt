@@ -2,9 +2,10 @@
 -- Assumes nothing.
 use Prim.Native.Nat.{ℕ}
 use Rattle.oce_model.specs.Computed.{computed as computedBelow}
-use Rattle.oce_diag.specs.Diagnostics.{subjectOf, blockSubjectOf, diagnostic, hasError, errors, warnings}
+use Rattle.oce_diag.specs.Diagnostics.{connectorSubject, subjectOf, blockSubject, blockSubjectOf, diagnostic, hasError, errors, warnings}
 use Rattle.oce_diag.specs.Encoding.{diagnosticBytes, reportBytes}
+use Rattle.oce_diag.specs.Putting.{putOne, putAll}
 
 unfoldable pub computed : ℕ
-unfolding computedBelow subjectOf blockSubjectOf diagnostic hasError errors warnings diagnosticBytes reportBytes
+unfolding computedBelow connectorSubject subjectOf blockSubject blockSubjectOf diagnostic hasError errors warnings diagnosticBytes reportBytes putOne putAll
 computed = 0

@@ -16,12 +16,18 @@ use Rattle.oce_diag.specs.declared.Subject.the-variants.{Text, Connector
 use Rattle.oce_diag.specs.declared.Diagnostic.{Diagnostic}
 
 -- `subject_of`: a connector's iri when known, else `connector#` and its id
+unfoldable pub connectorSubject : ℕ → ℕ → Subject
+connectorSubject iri id = cond (eqb iri noText) (OfConnector id) (Text iri)
+
 unfoldable pub subjectOf : Connector → Subject
-subjectOf c = cond (eqb (c .iri) noText) (OfConnector (c .id)) (Text (c .iri))
+subjectOf c = connectorSubject (c .iri) (c .id)
 
 -- `block_subject_of`: a block's instance iri when known, else `block#` and its id
+unfoldable pub blockSubject : ℕ → ℕ → Subject
+blockSubject instance id = cond (eqb instance noText) (OfBlock id) (Text instance)
+
 unfoldable pub blockSubjectOf : Block → Subject
-blockSubjectOf b = cond (eqb (b .instanceIri) noText) (OfBlock (b .id)) (Text (b .instanceIri))
+blockSubjectOf b = blockSubject (b .instanceIri) (b .id)
 
 unfoldable pub diagnostic : Severity → DiagCode → ℕ → ℕ → Subject → ℕ → Diagnostic
 diagnostic severity code rule detail subject place = record {

@@ -1,4 +1,5 @@
--- Diagnostics, their subjects, and their bytes in a report.
+-- Diagnostics, their subjects, their bytes, and how they are put into a report.
 pub mod Diagnostics
 pub mod Encoding
+pub mod Putting
 pub mod Computed

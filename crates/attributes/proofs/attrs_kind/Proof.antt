@@ -1,0 +1,14 @@
+-- `attributes::attrs_kind` meets its contract.
+-- Assumes nothing.
+use borrow.Author.Needs.{needs}
+use Rattle.oce_model.specs.Attributes.{attrsAt}
+use Rattle.attributes.proofs.attrs_kind.Statement.{statement}
+use Rattle.attributes.proofs.attrs_kind.Tie as tie
+
+pub attrs-kind-spec : {M : Type 1} → statement M
+unfolding attrsAt
+attrs-kind-spec =
+    tie.close
+    (tie.spec
+    (λ c κs. search needs)
+    (λ c. search needs))

@@ -1,0 +1,15 @@
+-- `attributes::min_bits` meets its contract.
+-- Assumes nothing.
+use borrow.Author.Needs.{needs}
+use Rattle.oce_model.specs.Attributes.{attrsAt}
+use Rattle.attributes.proofs.min_bits.Statement.{statement}
+use Rattle.attributes.proofs.min_bits.Tie as tie
+
+pub min-bits-spec : {M : Type 1} → statement M
+unfolding attrsAt
+min-bits-spec =
+    tie.close
+    (tie.spec
+    (λ c. search needs)
+    (λ c κs. search needs)
+    (λ c. search needs))

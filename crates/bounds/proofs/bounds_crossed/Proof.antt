@@ -1,0 +1,18 @@
+-- `bounds::bounds_crossed` meets its contract.
+-- Assumes nothing.
+use borrow.Author.Needs.{needs}
+use Rattle.crossed_bounds.specs.Ranges.{crossedBounds}
+use Rattle.bounds.proofs.Laws.{bounds-real, bounds-integer}
+use Rattle.bounds.proofs.bounds_crossed.Statement.{statement}
+use Rattle.bounds.proofs.bounds_crossed.Tie as tie
+
+pub bounds-crossed-spec : {M : Type 1} → statement M
+unfolding crossedBounds
+bounds-crossed-spec =
+    tie.close
+    (tie.spec
+    (λ c. search (bounds-real, bounds-integer, needs))
+    (λ c κs. search (bounds-real, bounds-integer, needs))
+    (λ c. search (bounds-real, bounds-integer, needs))
+    (λ c. search (bounds-real, bounds-integer, needs))
+    (λ c. search (bounds-real, bounds-integer, needs)))

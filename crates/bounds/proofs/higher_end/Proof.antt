@@ -1,0 +1,21 @@
+-- `bounds::higher_end` meets its contract.
+-- Assumes nothing.
+use borrow.Author.Needs.{needs}
+use Rattle.crossed_bounds.specs.Ranges.{higher}
+use Rattle.bounds.proofs.Laws.{higher-second, higher-first, higher-only}
+use Rattle.bounds.proofs.higher_end.Statement.{statement}
+use Rattle.bounds.proofs.higher_end.Tie as tie
+
+pub higher-end-spec : {M : Type 1} → statement M
+unfolding higher
+higher-end-spec =
+    tie.close
+    (tie.spec
+    (λ c. search (higher-second, higher-first, higher-only, needs))
+    (λ c. search (higher-second, higher-first, higher-only, needs))
+    (λ c. search (higher-second, higher-first, higher-only, needs))
+    (λ c. search (higher-second, higher-first, higher-only, needs))
+    (λ c. search (higher-second, higher-first, higher-only, needs))
+    (λ c. search (higher-second, higher-first, higher-only, needs))
+    (λ c. search (higher-second, higher-first, higher-only, needs))
+    (λ c. search (higher-second, higher-first, higher-only, needs)))

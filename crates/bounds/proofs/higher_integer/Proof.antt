@@ -1,0 +1,15 @@
+-- `bounds::higher_integer` meets its contract.
+-- Assumes nothing.
+use borrow.Author.Needs.{needs}
+use Rattle.crossed_bounds.specs.Ranges.{higherInteger}
+use Rattle.bounds.proofs.Laws.{higher-integer-second, higher-integer-first}
+use Rattle.bounds.proofs.higher_integer.Statement.{statement}
+use Rattle.bounds.proofs.higher_integer.Tie as tie
+
+pub higher-integer-spec : {M : Type 1} → statement M
+unfolding higherInteger
+higher-integer-spec =
+    tie.close
+    (tie.spec
+    (λ c. search (higher-integer-second, higher-integer-first, needs))
+    (λ c. search (higher-integer-second, higher-integer-first, needs)))

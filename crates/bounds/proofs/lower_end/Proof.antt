@@ -1,0 +1,21 @@
+-- `bounds::lower_end` meets its contract.
+-- Assumes nothing.
+use borrow.Author.Needs.{needs}
+use Rattle.crossed_bounds.specs.Ranges.{lower}
+use Rattle.bounds.proofs.Laws.{lower-second, lower-first, lower-only}
+use Rattle.bounds.proofs.lower_end.Statement.{statement}
+use Rattle.bounds.proofs.lower_end.Tie as tie
+
+pub lower-end-spec : {M : Type 1} → statement M
+unfolding lower
+lower-end-spec =
+    tie.close
+    (tie.spec
+    (λ c. search (lower-second, lower-first, lower-only, needs))
+    (λ c. search (lower-second, lower-first, lower-only, needs))
+    (λ c. search (lower-second, lower-first, lower-only, needs))
+    (λ c. search (lower-second, lower-first, lower-only, needs))
+    (λ c. search (lower-second, lower-first, lower-only, needs))
+    (λ c. search (lower-second, lower-first, lower-only, needs))
+    (λ c. search (lower-second, lower-first, lower-only, needs))
+    (λ c. search (lower-second, lower-first, lower-only, needs)))

@@ -1,0 +1,19 @@
+-- `bounds::uncrossed` meets its contract.
+-- Assumes nothing.
+use borrow.Author.Needs.{needs}
+use Rattle.crossed_bounds.specs.Ranges.{uncrossed}
+use Rattle.bounds.proofs.Laws.{uncrossed-absent, uncrossed-within}
+use Rattle.bounds.proofs.uncrossed.Statement.{statement}
+use Rattle.bounds.proofs.uncrossed.Tie as tie
+
+pub uncrossed-spec : {M : Type 1} → statement M
+unfolding uncrossed
+uncrossed-spec =
+    tie.close
+    (tie.spec
+    (λ c. search (uncrossed-absent, uncrossed-within, needs))
+    (λ c. search (uncrossed-absent, uncrossed-within, needs))
+    (λ c κs. search (uncrossed-absent, uncrossed-within, needs))
+    (λ c. search (uncrossed-absent, uncrossed-within, needs))
+    (λ c. search (uncrossed-absent, uncrossed-within, needs))
+    (λ c. search (uncrossed-absent, uncrossed-within, needs)))

@@ -1,0 +1,29 @@
+-- `degrees::clear` meets its contract.
+-- Assumes nothing.
+use borrow.Author.Needs.{needs}
+use Prim.Native.Nat.{_-_}
+use Rattle.degrees.specs.Columns.{Clears}
+use Rattle.degrees.proofs.Laws.{clear-start, clear-more, clear-room, clear-end}
+use Rattle.degrees.proofs.clear.Statement.{statement}
+use Rattle.degrees.proofs.clear.Tie as tie
+
+abbrev Inv-loop : tie.InvT-loop
+Inv-loop ds₀ n i₀ ds i = Clears n ds₀ i ds
+
+abbrev μ-loop : tie.MeasureT-loop
+μ-loop ds₀ n i₀ ds i = n - i
+
+pub clear-spec : {M : Type 1} → statement M
+clear-spec =
+    tie.close
+    (tie.spec
+    Inv-loop
+    μ-loop
+    (λ c. search (clear-start, clear-more, clear-room, clear-end, needs))
+    (λ c. search (clear-start, clear-more, clear-room, clear-end, needs))
+    (λ c. search (clear-start, clear-more, clear-room, clear-end, needs))
+    (λ c. search (clear-start, clear-more, clear-room, clear-end, needs))
+    (λ c. search (clear-start, clear-more, clear-room, clear-end, needs))
+    (λ c. search (clear-start, clear-more, clear-room, clear-end, needs))
+    (λ c. search (clear-start, clear-more, clear-room, clear-end, needs))
+    (λ c. search (clear-start, clear-more, clear-room, clear-end, needs)))

@@ -1,0 +1,31 @@
+-- `degrees::list_externals` meets its contract.
+-- Assumes nothing.
+use borrow.Author.Needs.{needs}
+use Prim.Native.Nat.{_≤_, _-_}
+use mathlib.Core.Path.{_≡_}
+use lib.ListN.{length}
+use Rattle.oce_model.specs.Model.{modelOf}
+use Rattle.degrees.specs.Columns.{Lists}
+use Rattle.degrees.proofs.Laws.{lists-all}
+use Rattle.degrees.proofs.list_externals.Statement.{statement}
+use Rattle.degrees.proofs.list_externals.Tie as tie
+
+abbrev Inv-loop : tie.InvT-loop
+Inv-loop image layout xs₀ externals k₀ xs k = Lists (modelOf image) k xs × (k ≤ layout .externals .count) × (length xs ≡ length xs₀)
+
+abbrev μ-loop : tie.MeasureT-loop
+μ-loop image layout xs₀ externals k₀ xs k = layout .externals .count - k
+
+pub list-externals-spec : {M : Type 1} → statement M
+list-externals-spec =
+    tie.close
+    (tie.spec
+    Inv-loop
+    μ-loop
+    (λ c. search (lists-all, needs))
+    (λ c κs. search (lists-all, needs))
+    (λ c. search (lists-all, needs))
+    (λ c. search (lists-all, needs))
+    (λ c. search (lists-all, needs))
+    (λ c. search (lists-all, needs))
+    (λ c. search (lists-all, needs)))

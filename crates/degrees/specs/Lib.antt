@@ -1,0 +1,2 @@
+-- In-degrees and external inputs of all connectors, in columns.
+pub mod Columns

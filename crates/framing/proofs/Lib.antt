@@ -1,0 +1,3 @@
+-- Laws of going through the fields of an image.
+pub mod Walks
+pub mod Finds

@@ -1,0 +1,32 @@
+-- `framing::frame` meets its contract: what is found is what was found before, then what the rest holds.
+-- Assumes nothing.
+use Prim.Native.Nat.{_-_}
+use lib.ListN.{length}
+use borrow.Author.Needs.{needs}
+use Rattle.framing.proofs.Finds.{Framing, framing-start, framing-turn, framing-cut, framing-whole}
+use Rattle.framing.proofs.Walks.{walk-less}
+use Rattle.framing.proofs.frame.Statement.{statement}
+use Rattle.framing.proofs.frame.Tie as tie
+
+abbrev Inv-loop : tie.InvT-loop
+Inv-loop s bad₀ f₀ bad f = Framing s bad f
+
+abbrev μ-loop : tie.MeasureT-loop
+μ-loop s bad₀ f₀ bad f = length s - f .at
+
+pub frame-spec : {M : Type 1} → statement M
+frame-spec =
+    tie.close
+    (tie.spec
+    Inv-loop
+    μ-loop
+    (λ c κs. search needs)
+    (λ c. search (framing-start, needs))
+    (λ c. search needs)
+    (λ c. search needs)
+    (λ c. search (framing-cut, needs))
+    (λ c κs. search needs)
+    (λ c κs. search needs)
+    (λ c. search (walk-less, needs))
+    (λ c. search (framing-turn, needs))
+    (λ c. search (framing-whole, needs)))

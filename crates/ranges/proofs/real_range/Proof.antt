@@ -1,0 +1,21 @@
+-- `ranges::real_range` meets its contract.
+-- Assumes nothing.
+use borrow.Author.Needs.{needs}
+use Rattle.ranges.proofs.Laws.{real-no-min, real-no-max, real-ends}
+use borrow.Author.Tests.{not-true, not-false}
+use Rattle.ranges.proofs.real_range.Statement.{statement}
+use Rattle.ranges.proofs.real_range.Tie as tie
+
+pub real-range-spec : {M : Type 1} → statement M
+real-range-spec =
+    tie.close
+    (tie.spec
+    (λ c κs. search needs)
+    (λ c κs. search needs)
+    (λ c κs. search needs)
+    (λ c. search (real-no-min, real-no-max, real-ends, not-true, not-false, needs))
+    (λ c κs. search needs)
+    (λ c. search (real-no-min, real-no-max, real-ends, not-true, not-false, needs))
+    (λ c κs. search needs)
+    (λ c κs. search needs)
+    (λ c. search (real-no-min, real-no-max, real-ends, not-true, not-false, needs)))

@@ -1,0 +1,21 @@
+-- `records::block` meets its contract.
+-- Assumes nothing.
+use borrow.Author.Needs.{needs}
+use Rattle.records.proofs.Laws.{block-parts}
+use Rattle.records.proofs.block.Statement.{statement}
+use Rattle.records.proofs.block.Tie as tie
+
+pub block-spec : {M : Type 1} → statement M
+block-spec =
+    tie.close
+    (tie.spec
+    (λ c. search needs)
+    (λ c κs. search needs)
+    (λ c. search needs)
+    (λ c. search needs)
+    (λ c κs. search needs)
+    (λ c. search needs)
+    (λ c κs. search needs)
+    (λ c. search needs)
+    (λ c κs. search needs)
+    (λ c. search (block-parts, needs)))

@@ -1,0 +1,15 @@
+-- `records::block_offset` meets its contract.
+-- Assumes nothing.
+use borrow.Author.Needs.{needs}
+use Rattle.records.proofs.Laws.{block-listed, block-is, block-near, inputs-few, outputs-few}
+use Rattle.records.proofs.block_offset.Statement.{statement}
+use Rattle.records.proofs.block_offset.Tie as tie
+
+pub block-offset-spec : {M : Type 1} → statement M
+block-offset-spec =
+    tie.close
+    (tie.spec
+    (λ c. search needs)
+    (λ c. search needs)
+    (λ c. search (block-listed, needs))
+    (λ c. search (block-is, block-near, inputs-few, outputs-few, needs)))

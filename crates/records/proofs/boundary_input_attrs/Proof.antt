@@ -1,0 +1,14 @@
+-- `records::boundary_input_attrs` meets its contract.
+-- Assumes nothing.
+use borrow.Author.Needs.{needs}
+use Rattle.records.proofs.Laws.{input-near, input-has}
+use Rattle.records.proofs.boundary_input_attrs.Statement.{statement}
+use Rattle.records.proofs.boundary_input_attrs.Tie as tie
+
+pub boundary-input-attrs-spec : {M : Type 1} → statement M
+boundary-input-attrs-spec =
+    tie.close
+    (tie.spec
+    (λ c κs. search (input-near, needs))
+    (λ c. search needs)
+    (λ c. search (input-has, needs)))

@@ -1,0 +1,15 @@
+-- `records::boundary_input_iri` meets its contract.
+-- Assumes nothing.
+use borrow.Author.Needs.{needs}
+use Rattle.records.proofs.Laws.{input-near, input-iri}
+use Rattle.records.proofs.boundary_input_iri.Statement.{statement}
+use Rattle.records.proofs.boundary_input_iri.Tie as tie
+
+pub boundary-input-iri-spec : {M : Type 1} → statement M
+boundary-input-iri-spec =
+    tie.close
+    (tie.spec
+    (λ c κs. search (input-near, needs))
+    (λ c. search needs)
+    (λ c κs. search needs)
+    (λ c. search (input-iri, needs)))

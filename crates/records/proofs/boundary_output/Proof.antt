@@ -1,0 +1,18 @@
+-- `records::boundary_output` meets its contract.
+-- Assumes nothing.
+use borrow.Author.Needs.{needs}
+use Rattle.records.proofs.Laws.{output-near, output-read}
+use Rattle.records.proofs.boundary_output.Statement.{statement}
+use Rattle.records.proofs.boundary_output.Tie as tie
+
+pub boundary-output-spec : {M : Type 1} → statement M
+boundary-output-spec =
+    tie.close
+    (tie.spec
+    (λ c κs. search (output-near, needs))
+    (λ c. search needs)
+    (λ c κs. search needs)
+    (λ c. search needs)
+    (λ c κs. search needs)
+    (λ c. search needs)
+    (λ c. search (output-read, needs)))

@@ -1,0 +1,14 @@
+-- `records::boundary_output_attrs` meets its contract.
+-- Assumes nothing.
+use borrow.Author.Needs.{needs}
+use Rattle.records.proofs.Laws.{output-near, output-has}
+use Rattle.records.proofs.boundary_output_attrs.Statement.{statement}
+use Rattle.records.proofs.boundary_output_attrs.Tie as tie
+
+pub boundary-output-attrs-spec : {M : Type 1} → statement M
+boundary-output-attrs-spec =
+    tie.close
+    (tie.spec
+    (λ c κs. search (output-near, needs))
+    (λ c. search needs)
+    (λ c. search (output-has, needs)))

@@ -1,0 +1,19 @@
+-- `records::connection` meets its contract.
+-- Assumes nothing.
+use borrow.Author.Needs.{needs}
+use Rattle.records.proofs.Laws.{connection-near, connection-read}
+use Rattle.records.proofs.connection.Statement.{statement}
+use Rattle.records.proofs.connection.Tie as tie
+
+pub connection-spec : {M : Type 1} → statement M
+connection-spec =
+    tie.close
+    (tie.spec
+    (λ c κs. search (connection-near, needs))
+    (λ c. search needs)
+    (λ c κs. search needs)
+    (λ c. search needs)
+    (λ c. search needs)
+    (λ c κs. search needs)
+    (λ c. search needs)
+    (λ c. search (connection-read, needs)))

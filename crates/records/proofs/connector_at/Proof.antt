@@ -1,0 +1,26 @@
+-- `records::connector_at` meets its contract.
+-- Assumes nothing.
+use borrow.Author.Needs.{needs}
+use Rattle.records.proofs.Laws.{connector-parts}
+use Rattle.records.proofs.connector_at.Statement.{statement}
+use Rattle.records.proofs.connector_at.Tie as tie
+
+pub connector-at-spec : {M : Type 1} → statement M
+connector-at-spec =
+    tie.close
+    (tie.spec
+    (λ c. search needs)
+    (λ c κs. search needs)
+    (λ c. search needs)
+    (λ c. search needs)
+    (λ c κs. search needs)
+    (λ c. search needs)
+    (λ c. search needs)
+    (λ c κs. search needs)
+    (λ c. search needs)
+    (λ c κs. search needs)
+    (λ c. search needs)
+    (λ c κs. search needs)
+    (λ c. search needs)
+    (λ c κs. search needs)
+    (λ c. search (connector-parts, needs)))

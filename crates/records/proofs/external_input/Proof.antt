@@ -1,0 +1,15 @@
+-- `records::external_input` meets its contract.
+-- Assumes nothing.
+use borrow.Author.Needs.{needs}
+use Rattle.records.proofs.Laws.{external-near, external-read}
+use Rattle.records.proofs.external_input.Statement.{statement}
+use Rattle.records.proofs.external_input.Tie as tie
+
+pub external-input-spec : {M : Type 1} → statement M
+external-input-spec =
+    tie.close
+    (tie.spec
+    (λ c κs. search (external-near, needs))
+    (λ c. search needs)
+    (λ c κs. search needs)
+    (λ c. search (external-read, needs)))

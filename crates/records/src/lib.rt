@@ -1,0 +1,172 @@
+// The records of an accepted image, read by their numbers. Nothing here can fail: the layout says where
+// each record stands.
+use accept::Layout;
+use accept::Section;
+use numbers::at16;
+use numbers::at32;
+use numbers::at64;
+use numbers::byte_at;
+use numbers::int_of_bits;
+use numbers::real_of_bits;
+use oce_model::BOUNDARY_INPUT_ATTRS;
+use oce_model::BOUNDARY_INPUT_SIZE;
+use oce_model::BOUNDARY_OUTPUT_ATTRS;
+use oce_model::BOUNDARY_OUTPUT_SIZE;
+use oce_model::Block;
+use oce_model::BlockId;
+use oce_model::BoundaryOutput;
+use oce_model::CONNECTION_SIZE;
+use oce_model::CONNECTOR_ATTRS;
+use oce_model::CONNECTOR_SIZE;
+use oce_model::Connection;
+use oce_model::Connector;
+use oce_model::ConnectorId;
+use oce_model::EXTERNAL_INPUT_SIZE;
+use oce_model::IntAttrs;
+use oce_model::PORT_LENGTH;
+use oce_model::RealAttrs;
+ghost use mathlib.Core.Path.{_≡_};
+ghost use Prim.Native.Nat.{_+_, _*_, _<_, _≤_};
+ghost use lib.ListN.{length, getD};
+ghost use Rattle.numbers.specs.Bytes.{le32};
+ghost use Rattle.oce_model.specs.Format.{longestImage, portLength, mostPorts, blockTag, connectorTag, connectionTag, externalInputTag, boundaryInputTag, boundaryOutputTag, connectorSize, connectionSize, externalInputSize, boundaryInputSize, boundaryOutputSize, connectorAttrs};
+ghost use Rattle.oce_model.specs.Attributes.{attrsAt};
+ghost use Rattle.oce_model.specs.Model.{modelOf, inputCountAt, outputCountAt, blockAt, connectorAt, block, connector, connection, boundaryInput, boundaryOutput};
+ghost use Rattle.accept.specs.Layout.{Laid, Tabled};
+ghost use Rattle.records.specs.Records.{blockRead, connectorRead, outputRead, realAttrs, intAttrs};
+
+// Where record i of a section stands, by the size of its records.
+fn record_at(section: Section, size: usize, i: usize) -> usize
+    requires { ⌜ section .start + size * i ≤ longestImage ⌝ }
+    ensures { λ r. ⌜ (r ≡ section .start + size * i) × (r ≤ longestImage) ⌝ }
+{
+    section.start + size * i
+}
+
+// ---- connectors
+
+fn connector_at(image: &[u8], at: usize) -> Connector
+    requires { ⌜ at ≤ longestImage ⌝ }
+    ensures { λ r. ⌜ (r ≡ connectorRead (connectorAt (now (image .entry)) at)) × (r .iri < 65536) ⌝ }
+{
+    Connector {
+        id: ConnectorId(at32(image, at + 3) as u32),
+        block: BlockId(at32(image, at + 7) as u32),
+        dir: byte_at(image, at + 11),
+        kind: byte_at(image, at + 12),
+        class: at32(image, at + 13),
+        iri: at16(image, at + 17),
+    }
+}
+
+pub fn connector(image: &[u8], layout: Layout, i: ConnectorId) -> Connector
+    requires { ⌜ Laid (now image) layout × (i .0 < layout .connectors .count) ⌝ }
+    ensures { λ r. ⌜ (r ≡ connectorRead (connector (modelOf (now (image .entry))) (i .0))) × (r .iri < 65536) ⌝ }
+{
+    let c = layout.connectors;
+    connector_at(image, record_at(c, CONNECTOR_SIZE, i.0 as usize))
+}
+
+// Where a connector's attributes stand.
+pub fn connector_attrs(image: &[u8], layout: Layout, i: ConnectorId) -> usize
+    requires { ⌜ Laid (now image) layout × (i .0 < layout .connectors .count) ⌝ }
+    ensures { λ r. ⌜ (attrsAt (now (image .entry)) r ≡ connector (modelOf (now (image .entry))) (i .0) .attrs) × (r ≤ longestImage + connectorAttrs) ⌝ }
+{
+    let c = layout.connectors;
+    record_at(c, CONNECTOR_SIZE, i.0 as usize) + CONNECTOR_ATTRS
+}
+
+// ---- connections and external inputs
+
+pub fn connection(image: &[u8], layout: Layout, k: usize) -> Connection
+    requires { ⌜ Laid (now image) layout × (k < layout .connections .count) ⌝ }
+    ensures { λ r. ⌜ r ≡ connection (modelOf (now (image .entry))) k ⌝ }
+{
+    let c = layout.connections;
+    let at = record_at(c, CONNECTION_SIZE, k);
+    Connection {
+        from: at32(image, at + 3) as u32,
+        to: at32(image, at + 7) as u32,
+    }
+}
+
+// The id of external input i.
+pub fn external_input(image: &[u8], layout: Layout, i: usize) -> usize
+    requires { ⌜ Laid (now image) layout × (i < layout .externals .count) ⌝ }
+    ensures { λ r. ⌜ (r ≡ getD (modelOf (now (image .entry)) .externalInputs) i 0) × (r < 4294967296) ⌝ }
+{
+    let c = layout.externals;
+    at32(image, record_at(c, EXTERNAL_INPUT_SIZE, i) + 3)
+}
+
+// ---- boundary records
+
+// The text number of boundary input i's iri.
+pub fn boundary_input_iri(image: &[u8], layout: Layout, i: usize) -> usize
+    requires { ⌜ Laid (now image) layout × (i < layout .inputs .count) ⌝ }
+    ensures { λ r. ⌜ (r ≡ boundaryInput (modelOf (now (image .entry))) i .iri) × (r < 65536) ⌝ }
+{
+    let c = layout.inputs;
+    at16(image, record_at(c, BOUNDARY_INPUT_SIZE, i) + 3)
+}
+
+// Where its attributes stand.
+pub fn boundary_input_attrs(image: &[u8], layout: Layout, i: usize) -> usize
+    requires { ⌜ Laid (now image) layout × (i < layout .inputs .count) ⌝ }
+    ensures { λ r. ⌜ (attrsAt (now (image .entry)) r ≡ boundaryInput (modelOf (now (image .entry))) i .attrs) × (r ≤ longestImage + connectorAttrs) ⌝ }
+{
+    let c = layout.inputs;
+    record_at(c, BOUNDARY_INPUT_SIZE, i) + BOUNDARY_INPUT_ATTRS
+}
+
+pub fn boundary_output(image: &[u8], layout: Layout, i: usize) -> BoundaryOutput
+    requires { ⌜ Laid (now image) layout × (i < layout .outputs .count) ⌝ }
+    ensures { λ r. ⌜ (r ≡ outputRead (boundaryOutput (modelOf (now (image .entry))) i)) × (r .iri < 65536) ⌝ }
+{
+    let c = layout.outputs;
+    let at = record_at(c, BOUNDARY_OUTPUT_SIZE, i);
+    BoundaryOutput {
+        iri: at16(image, at + 3),
+        source: ConnectorId(at32(image, at + 5) as u32),
+    }
+}
+
+// Where its attributes stand.
+pub fn boundary_output_attrs(image: &[u8], layout: Layout, i: usize) -> usize
+    requires { ⌜ Laid (now image) layout × (i < layout .outputs .count) ⌝ }
+    ensures { λ r. ⌜ (attrsAt (now (image .entry)) r ≡ boundaryOutput (modelOf (now (image .entry))) i .attrs) × (r ≤ longestImage + connectorAttrs) ⌝ }
+{
+    let c = layout.outputs;
+    record_at(c, BOUNDARY_OUTPUT_SIZE, i) + BOUNDARY_OUTPUT_ATTRS
+}
+
+// ---- blocks
+
+// Where block i stands; blocks is the table that `accept` filled.
+pub fn block_offset(image: &[u8], layout: Layout, blocks: &[usize], i: BlockId) -> usize
+    requires { ⌜ Laid (now image) layout × Tabled blockTag (now image) (now blocks) × (i .0 < layout .blocks .count) ⌝ }
+    ensures { λ r. ⌜ (block (modelOf (now (image .entry))) (i .0) ≡ blockAt (now (image .entry)) r) × (r ≤ longestImage) × (inputCountAt (now (image .entry)) r ≤ mostPorts) × (outputCountAt (now (image .entry)) r ≤ mostPorts) ⌝ }
+{
+    let k = i.0 as usize;
+    blocks[k]
+}
+
+pub fn block(image: &[u8], at: usize) -> Block
+    requires { ⌜ at ≤ longestImage ⌝ }
+    ensures { λ r. ⌜ (r ≡ blockRead (blockAt (now (image .entry)) at)) × (r .instance < 65536) × (r .inputs ≡ inputCountAt (now (image .entry)) at) × (r .outputs ≡ outputCountAt (now (image .entry)) at) ⌝ }
+{
+    Block {
+        id: BlockId(at32(image, at + 3) as u32),
+        instance: at16(image, at + 7),
+        inputs: at16(image, at + 9),
+        outputs: at16(image, at + 11),
+    }
+}
+
+// The id of port j of those whose ids begin at an offset.
+pub fn port(image: &[u8], ids: usize, j: usize) -> usize
+    requires { ⌜ (ids ≤ longestImage + longestImage) × (j ≤ longestImage) ⌝ }
+    ensures { λ r. ⌜ (r ≡ le32 (now (image .entry)) (ids + portLength * j)) × (r < 4294967296) ⌝ }
+{
+    at32(image, ids + PORT_LENGTH * j)
+}

@@ -1,0 +1,147 @@
+// The slots of rule 6 in columns: kinds, marks, and eight numbers for each slot.
+use numbers::wide;
+use oce_model::DISPLAY_UNIT_BIT;
+use oce_model::INTEGER_KIND;
+use oce_model::MAX_BIT;
+use oce_model::MIN_BIT;
+use oce_model::QUANTITY_BIT;
+use oce_model::REAL_KIND;
+use oce_model::UNIT_BIT;
+ghost use mathlib.Core.Path.{_≡_};
+ghost use mathlib.Core.Bool.{false};
+ghost use Prim.Native.Nat.{_+_, _^_, _≤_, _<_};
+ghost use Rattle.numbers.specs.Bytes.{bit};
+ghost use Rattle.oce_model.specs.Attributes.{num};
+ghost use Rattle.unify.specs.Slots.{slot, displayDetail, kindOf, bitOf};
+ghost use Rattle.slots.specs.Columns.{used, view, declares, Room, Declared, PutOne};
+
+// The places that a slot has in the column of numbers.
+pub const WIDTH: usize = 8;
+
+// What slot j declares for a detail.
+pub struct Given {
+    pub set: bool,
+    pub value: u64,
+}
+
+// ---- details
+
+// The kind that detail d is an attribute of.
+pub fn kind_of(d: usize) -> usize
+    requires { ⌜ d ≤ displayDetail ⌝ }
+    ensures { λ r. ⌜ r ≡ kindOf d ⌝ }
+{
+    let kinds: [usize; 8] = [
+        0,
+        REAL_KIND,
+        REAL_KIND,
+        REAL_KIND,
+        REAL_KIND,
+        INTEGER_KIND,
+        INTEGER_KIND,
+        REAL_KIND,
+    ];
+    kinds[d]
+}
+
+// The bit that marks it there.
+pub fn bit_of(d: usize) -> usize
+    requires { ⌜ d ≤ displayDetail ⌝ }
+    ensures { λ r. ⌜ (r ≡ bitOf d) × (r < used) ⌝ }
+{
+    let bits: [usize; 8] = [
+        0,
+        UNIT_BIT,
+        QUANTITY_BIT,
+        MIN_BIT,
+        MAX_BIT,
+        MIN_BIT,
+        MAX_BIT,
+        DISPLAY_UNIT_BIT,
+    ];
+    bits[d]
+}
+
+// ---- marks
+
+// What bit p counts in a byte.
+fn weight(p: usize) -> u8
+    requires { ⌜ p < used ⌝ }
+    ensures { λ r. ⌜ r ≡ 2 ^ p ⌝ }
+{
+    let weights: [u8; 6] = [1, 2, 4, 8, 16, 32];
+    weights[p]
+}
+
+// Bit p of a byte is set.
+pub fn is_marked(marks: u8, p: usize) -> bool
+    requires { ⌜ p < used ⌝ }
+    ensures { λ r. ⌜ r ≡ bit marks p ⌝ }
+{
+    (marks >> p) % 2 == 1
+}
+
+// The byte with bit p set, which was not.
+fn with_mark(marks: u8, p: usize) -> u8
+    requires { ⌜ (p < used) × (bit marks p ≡ false) ⌝ }
+    ensures { λ r. ⌜ r ≡ marks + 2 ^ p ⌝ }
+{
+    let w = weight(p);
+    marks + w
+}
+
+// Attributes of this kind with these marks declare something for detail d.
+fn is_declared(kind: u8, marks: u8, d: usize) -> bool
+    requires { ⌜ d ≤ displayDetail ⌝ }
+    ensures { λ r. ⌜ r ≡ declares d kind marks ⌝ }
+{
+    if wide(kind) == kind_of(d) {
+        return is_marked(marks, bit_of(d));
+    }
+    false
+}
+
+// ---- one slot
+
+// Slot j's number under bit p.
+pub fn number(s: usize, ks: &[u8], ms: &[u8], ns: &[u64], j: usize, p: usize) -> u64
+    requires { ⌜ Room s (now ks) (now ms) (now ns) × (j < s) × (p < used) ⌝ }
+    ensures { λ r. ⌜ r ≡ num (slot (view s (now (ks .entry)) (now (ms .entry)) (now (ns .entry))) j) p ⌝ }
+{
+    ns[WIDTH * j + p]
+}
+
+// What slot j declares for detail d.
+pub fn declared_at(s: usize, ks: &[u8], ms: &[u8], ns: &[u64], j: usize, d: usize) -> Given
+    requires { ⌜ Room s (now ks) (now ms) (now ns) × (j < s) × (d ≤ displayDetail) ⌝ }
+    ensures { λ r. ⌜ Declared d s (now (ks .entry)) (now (ms .entry)) (now (ns .entry)) j (r .set) (r .value) ⌝ }
+{
+    if is_declared(ks[j], ms[j], d) {
+        let p = bit_of(d);
+        return Given {
+            set: true,
+            value: number(s, ks, ms, ns, j, p),
+        };
+    }
+    Given {
+        set: false,
+        value: 0,
+    }
+}
+
+// Slot j takes v for detail d, where it is of the kind and declares nothing.
+pub fn put_one(s: usize, ks: &[u8], ms: &mut [u8], ns: &mut [u64], j: usize, d: usize, v: u64)
+    requires { ⌜ Room s (now ks) (now ms) (now ns) × (j < s) × (d ≤ displayDetail) ⌝ }
+    ensures { λ _. ⌜ PutOne d v s (now (ks .entry)) j (now (ms .entry)) (now (ns .entry)) (now (ms .exit)) (now (ns .exit)) ⌝ }
+{
+    if wide(ks[j]) != kind_of(d) {
+        return;
+    }
+    let p = bit_of(d);
+    let marks = ms[j];
+    if is_marked(marks, p) {
+        return;
+    }
+    ms[j] = with_mark(marks, p);
+    ns[WIDTH * j + p] = v;
+}
