@@ -38,8 +38,29 @@ abbrev pub highestTag : ℕ
 highestTag = boundaryOutputTag
 
 -- ---- the table's last column: the most records of each tag
+abbrev pub mostTexts : ℕ
+mostTexts = 1024
+
+abbrev pub mostBlocks : ℕ
+mostBlocks = 256
+
+abbrev pub mostConnectors : ℕ
+mostConnectors = 1024
+
+abbrev pub mostConnections : ℕ
+mostConnections = 2048
+
+abbrev pub mostExternalInputs : ℕ
+mostExternalInputs = 1024
+
+abbrev pub mostBoundaryInputs : ℕ
+mostBoundaryInputs = 256
+
+abbrev pub mostBoundaryOutputs : ℕ
+mostBoundaryOutputs = 256
+
 unfoldable pub most : ℕ → ℕ
-most t = getD (0 ∷ 1 ∷ 1024 ∷ 256 ∷ 1024 ∷ 2048 ∷ 1024 ∷ 256 ∷ 256 ∷ []) t 0
+most t = getD (0 ∷ 1 ∷ mostTexts ∷ mostBlocks ∷ mostConnectors ∷ mostConnections ∷ mostExternalInputs ∷ mostBoundaryInputs ∷ mostBoundaryOutputs ∷ []) t 0
 
 -- ---- the table's contents: the bytes of each tag's contents. A text has 0 to longestText, a block blockLength and portLength for each port
 abbrev pub longestText : ℕ

@@ -1,6 +1,7 @@
 -- Where the records of an accepted image stand, by its layout.
 -- Assumes nothing.
 use Prim.Native.Nat.{ℕ, _+_, _*_, _<_, _≤_}
+use native.Mathlib.Nat.{le-refl}
 use native.Mathlib.Omega.{arith}
 use mathlib.Core.Path.{_≡_, refl, sym, ap, _∙_}
 use mathlib.Core.Logic.{_≢_}
@@ -13,7 +14,7 @@ use Rattle.base.specs.Buffers.{startsWith}
 use Rattle.base.proofs.Lists.{length-tab, getD-tab, or-parts}
 use Rattle.base.proofs.Members.{getD-map}
 use Rattle.numbers.specs.Bytes.{byte, le16, le32}
-use Rattle.oce_model.specs.Format.{leadingBytes, longestImage, portLength, mostPorts, blockLength, textTag, blockTag, fixedLength, connectorTag, connectionTag, externalInputTag, boundaryInputTag, boundaryOutputTag, connectorSize, connectionSize, externalInputSize, boundaryInputSize, boundaryOutputSize, connectorAttrs, boundaryInputAttrs, boundaryOutputAttrs}
+use Rattle.oce_model.specs.Format.{leadingBytes, longestImage, portLength, mostPorts, blockLength, textTag, blockTag, fixedLength, most, mostBlocks, mostConnectors, mostConnections, mostExternalInputs, mostBoundaryInputs, mostBoundaryOutputs, connectorTag, connectionTag, externalInputTag, boundaryInputTag, boundaryOutputTag, connectorSize, connectionSize, externalInputSize, boundaryInputSize, boundaryOutputSize, connectorAttrs, boundaryInputAttrs, boundaryOutputAttrs}
 use Rattle.oce_model.specs.Attributes.{attrsAt}
 use Rattle.oce_model.specs.Image.{fieldAt, fields, ofTag, startOf}
 use Rattle.oce_model.specs.declared.Field.{Field}
@@ -28,6 +29,7 @@ use Rattle.oce_model.proofs.Places.{field-end}
 use Rattle.oce_model.proofs.Records.{nth-at, connector-at, connection-at, external-at, input-at, output-at}
 use Rattle.accept.specs.Layout.{Laid, Tabled, sectionOf, layoutOf, offsetsOf}
 use Rattle.accept.specs.declared.Layout.{Layout}
+use Rattle.accept.proofs.Rooms.{accepted-room}
 use Rattle.records.specs.Records.{blockRead, connectorRead, outputRead}
 
 -- a record of a kind of fixed length stands inside the image
@@ -83,6 +85,35 @@ module _ {s : List ℕ} {l : Layout} (h : Laid s l) where
   pub blocks-counted : l .blocks .count ≡ blockCount (modelOf s)
   unfolding layoutOf sectionOf modelOf
   blocks-counted = rw (h .layout, length-map)
+
+  -- ---- and at most
+  few : (t : ℕ) → length (ofTag t (fields s)) ≤ most t
+  unfolding offsetsOf
+  few t = let e = accepted-room t s (h .accepted) (le-refl (most t)) in rw length-map at e
+
+  pub blocks-few : l .blocks .count ≤ mostBlocks
+  unfolding layoutOf sectionOf most
+  blocks-few = rw (h .layout) (few blockTag)
+
+  pub connectors-few : l .connectors .count ≤ mostConnectors
+  unfolding layoutOf sectionOf most
+  connectors-few = rw (h .layout) (few connectorTag)
+
+  pub connections-few : l .connections .count ≤ mostConnections
+  unfolding layoutOf sectionOf most
+  connections-few = rw (h .layout) (few connectionTag)
+
+  pub externals-few : l .externals .count ≤ mostExternalInputs
+  unfolding layoutOf sectionOf most
+  externals-few = rw (h .layout) (few externalInputTag)
+
+  pub boundary-inputs-few : l .inputs .count ≤ mostBoundaryInputs
+  unfolding layoutOf sectionOf most
+  boundary-inputs-few = rw (h .layout) (few boundaryInputTag)
+
+  pub boundary-outputs-few : l .outputs .count ≤ mostBoundaryOutputs
+  unfolding layoutOf sectionOf most
+  boundary-outputs-few = rw (h .layout) (few boundaryOutputTag)
 
   module _ {i : ℕ} where
     -- ---- connectors
@@ -220,10 +251,10 @@ module _ {s : List ℕ} {l : Layout} (h : Laid s l) where
       unfolding badBlockLength
       parts = or-parts (not (eqb (nth blockTag s i .len) (blockLength + portLength * (inputCountAt s (nth blockTag s i .at) + outputCountAt s (nth blockTag s i .at)))) || ltb mostPorts (inputCountAt s (nth blockTag s i .at))) (ltb mostPorts (outputCountAt s (nth blockTag s i .at))) field-fine
 
-      pub inputs-few : {at : ℕ} → at ≡ getD blocks i 0 → inputCountAt s at ≤ mostPorts
-      inputs-few {at} e =
+      pub input-ports-few : {at : ℕ} → at ≡ getD blocks i 0 → inputCountAt s at ≤ mostPorts
+      input-ports-few {at} e =
           let f = nth blockTag s i in
           rw (e ∙ stands) (ltb-false mostPorts (inputCountAt s (f .at)) (or-parts (not (eqb (f .len) (blockLength + portLength * (inputCountAt s (f .at) + outputCountAt s (f .at))))) (ltb mostPorts (inputCountAt s (f .at))) (parts .0) .1))
 
-      pub outputs-few : {at : ℕ} → at ≡ getD blocks i 0 → outputCountAt s at ≤ mostPorts
-      outputs-few {at} e = rw (e ∙ stands) (ltb-false mostPorts (outputCountAt s (nth blockTag s i .at)) (parts .1))
+      pub output-ports-few : {at : ℕ} → at ≡ getD blocks i 0 → outputCountAt s at ≤ mostPorts
+      output-ports-few {at} e = rw (e ∙ stands) (ltb-false mostPorts (outputCountAt s (nth blockTag s i .at)) (parts .1))

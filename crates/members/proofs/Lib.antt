@@ -1,0 +1,2 @@
+-- Laws of the members.
+pub mod Laws

@@ -1,0 +1,18 @@
+-- `members::collect_one` meets its contract.
+-- Assumes nothing.
+use borrow.Author.Needs.{needs}
+use Rattle.members.proofs.Laws.{collect-yes, collect-no}
+use Rattle.members.proofs.collect_one.Statement.{statement}
+use Rattle.members.proofs.collect_one.Tie as tie
+
+pub collect-one-spec : {M : Type 1} → statement M
+collect-one-spec =
+    tie.close
+    (tie.spec
+    (λ c κs. search needs)
+    (λ c. search needs)
+    (λ c. search needs)
+    (λ c. search needs)
+    (λ c. search needs)
+    (λ c. search (collect-yes, collect-no, needs))
+    (λ c. search (collect-yes, collect-no, needs)))

@@ -1,0 +1,16 @@
+-- `members::member_attrs` meets its contract.
+-- Assumes nothing.
+use borrow.Author.Needs.{needs}
+use Rattle.members.proofs.Laws.{connector-small, attrs-connector, attrs-input}
+use Rattle.members.proofs.member_attrs.Statement.{statement}
+use Rattle.members.proofs.member_attrs.Tie as tie
+
+pub member-attrs-spec : {M : Type 1} → statement M
+member-attrs-spec =
+    tie.close
+    (tie.spec
+    (λ c. search (connector-small, attrs-connector, attrs-input, needs))
+    (λ c κs. search needs)
+    (λ c. search (connector-small, attrs-connector, attrs-input, needs))
+    (λ c κs. search needs)
+    (λ c. search (connector-small, attrs-connector, attrs-input, needs)))

@@ -1,0 +1,17 @@
+-- `members::member_external` meets its contract.
+-- Assumes nothing.
+use borrow.Author.Needs.{needs}
+use Rattle.members.proofs.Laws.{connector-small, external-input, external-connector}
+use Rattle.members.proofs.member_external.Statement.{statement}
+use Rattle.members.proofs.member_external.Tie as tie
+
+pub member-external-spec : {M : Type 1} → statement M
+member-external-spec =
+    tie.close
+    (tie.spec
+    (λ c. search (connector-small, external-input, external-connector, needs))
+    (λ c. search (connector-small, external-input, external-connector, needs))
+    (λ c κs. search needs)
+    (λ c. search needs)
+    (λ c κs. search needs)
+    (λ c. search (connector-small, external-input, external-connector, needs)))

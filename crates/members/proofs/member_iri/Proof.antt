@@ -1,0 +1,16 @@
+-- `members::member_iri` meets its contract.
+-- Assumes nothing.
+use borrow.Author.Needs.{needs}
+use Rattle.members.proofs.Laws.{connector-small, iri-connector, iri-input}
+use Rattle.members.proofs.member_iri.Statement.{statement}
+use Rattle.members.proofs.member_iri.Tie as tie
+
+pub member-iri-spec : {M : Type 1} → statement M
+member-iri-spec =
+    tie.close
+    (tie.spec
+    (λ c. search (connector-small, iri-connector, iri-input, needs))
+    (λ c κs. search needs)
+    (λ c. search (connector-small, iri-connector, iri-input, needs))
+    (λ c κs. search needs)
+    (λ c. search (connector-small, iri-connector, iri-input, needs)))

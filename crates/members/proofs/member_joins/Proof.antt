@@ -1,0 +1,16 @@
+-- `members::member_joins` meets its contract.
+-- Assumes nothing.
+use borrow.Author.Needs.{needs}
+use Rattle.members.proofs.Laws.{connector-small, joins-input, joins-out, joins-in}
+use Rattle.members.proofs.member_joins.Statement.{statement}
+use Rattle.members.proofs.member_joins.Tie as tie
+
+pub member-joins-spec : {M : Type 1} → statement M
+member-joins-spec =
+    tie.close
+    (tie.spec
+    (λ c. search (connector-small, joins-input, joins-out, joins-in, needs))
+    (λ c. search (connector-small, joins-input, joins-out, joins-in, needs))
+    (λ c κs. search needs)
+    (λ c. search (connector-small, joins-input, joins-out, joins-in, needs))
+    (λ c. search (connector-small, joins-input, joins-out, joins-in, needs)))

@@ -1,0 +1,152 @@
+// The members of the groups of rule 5.4, by one numbering: the connectors, and behind them the boundary
+// inputs.
+use accept::Layout;
+use crossed_bounds::Range;
+use degrees::is_external;
+use oce_model::ConnectorId;
+use oce_model::NO_TEXT;
+use ranges::range_of;
+use records::boundary_input_attrs;
+use records::boundary_input_iri;
+use records::connector;
+use records::connector_attrs;
+ghost use mathlib.Core.Path.{_≡_};
+ghost use Prim.Native.Nat.{_+_, _<_, _≤_};
+ghost use lib.ListN.{length, take};
+ghost use Rattle.base.specs.Lists.{tab, only, below};
+ghost use Rattle.oce_model.specs.Format.{longestImage, connectorAttrs};
+ghost use Rattle.oce_model.specs.Attributes.{attrsAt};
+ghost use Rattle.oce_model.specs.Model.{modelOf};
+ghost use Rattle.accept.specs.Layout.{Laid};
+ghost use Rattle.degrees.specs.Columns.{Listed};
+ghost use Rattle.crossed_bounds.specs.CrossedBounds.{memberIri, memberAttrs, memberExternal};
+ghost use Rattle.members.specs.Members.{memberCount, isMember, memberRange, memberJoins, joining, Continued};
+
+// The direction In, as specs/Format.antt of oce_model has it.
+const DIR_IN: usize = 0;
+
+// ---- one member
+
+// The text number of its iri.
+pub fn member_iri(image: &[u8], layout: Layout, x: usize) -> usize
+    requires { ⌜ Laid (now image) layout × isMember layout x ⌝ }
+    ensures { λ r. ⌜ (r ≡ memberIri (modelOf (now (image .entry))) x) × (r < 65536) ⌝ }
+{
+    let connectors = layout.connectors;
+    let n = connectors.count;
+    if x < n {
+        let c = connector(image, layout, ConnectorId(x as u32));
+        return c.iri;
+    }
+    boundary_input_iri(image, layout, x - n)
+}
+
+// Where its attributes stand.
+fn member_attrs(image: &[u8], layout: Layout, x: usize) -> usize
+    requires { ⌜ Laid (now image) layout × isMember layout x ⌝ }
+    ensures { λ r. ⌜ (attrsAt (now (image .entry)) r ≡ memberAttrs (modelOf (now (image .entry))) x) × (r ≤ longestImage + connectorAttrs) ⌝ }
+{
+    let connectors = layout.connectors;
+    let n = connectors.count;
+    if x < n {
+        return connector_attrs(image, layout, ConnectorId(x as u32));
+    }
+    boundary_input_attrs(image, layout, x - n)
+}
+
+pub fn member_range(image: &[u8], layout: Layout, x: usize) -> Range
+    requires { ⌜ Laid (now image) layout × isMember layout x ⌝ }
+    ensures { λ r. ⌜ r ≡ memberRange (modelOf (now (image .entry))) x ⌝ }
+{
+    range_of(image, layout, member_attrs(image, layout, x))
+}
+
+// It is a connector whose id is external; externals is the column that `list_externals` fills.
+pub fn member_external(image: &[u8], layout: Layout, externals: &[u8], x: usize) -> bool
+    requires { ⌜ Laid (now image) layout × Listed (modelOf (now image)) (now externals) ⌝ }
+    ensures { λ r. ⌜ r ≡ memberExternal (modelOf (now (image .entry))) x ⌝ }
+{
+    let connectors = layout.connectors;
+    let n = connectors.count;
+    if n <= x {
+        return false;
+    }
+    let c = connector(image, layout, ConnectorId(x as u32));
+    let id = c.id;
+    let own = id.0 as usize;
+    is_external(image, layout, externals, own)
+}
+
+// It takes part in the grouping: an In with an iri, or a boundary input.
+fn member_joins(image: &[u8], layout: Layout, x: usize) -> bool
+    requires { ⌜ Laid (now image) layout ⌝ }
+    ensures { λ r. ⌜ r ≡ memberJoins (modelOf (now (image .entry))) x ⌝ }
+{
+    let connectors = layout.connectors;
+    let n = connectors.count;
+    if n <= x {
+        return true;
+    }
+    let c = connector(image, layout, ConnectorId(x as u32));
+    if c.dir != DIR_IN {
+        return false;
+    }
+    c.iri != NO_TEXT
+}
+
+// ---- all members
+
+// The text numbers of their iris.
+pub fn list_iris(image: &[u8], layout: Layout, iri: &mut [u16])
+    requires { ⌜ Laid (now image) layout × (length (now iri) ≡ memberCount layout) ⌝ }
+    ensures { λ _. ⌜ now (iri .exit) ≡ tab (memberCount layout) (memberIri (modelOf (now (image .entry)))) ⌝ }
+{
+    let mut i = 0;
+    while i < iri.len() {
+        iri[i] = member_iri(image, layout, i) as u16;
+        i += 1;
+    }
+}
+
+// Member i behind the n that were collected, if it takes part. How many there are then.
+fn collect_one(image: &[u8], layout: Layout, i: usize, records: &mut [usize], n: usize) -> usize
+    requires { ⌜ Laid (now image) layout × (n < length (now records)) ⌝ }
+    ensures { λ r. ⌜ Continued n (only (memberJoins (modelOf (now (image .entry))) i) i) (now (records .entry)) (now (records .exit)) r ⌝ }
+{
+    if member_joins(image, layout, i) {
+        records[n] = i;
+        return n + 1;
+    }
+    n
+}
+
+// Those of the first count members that take part, at the front of records. How many there are.
+pub fn collect(image: &[u8], layout: Layout, count: usize, records: &mut [usize]) -> usize
+    requires { ⌜ Laid (now image) layout × (count ≤ length (now records)) ⌝ }
+    ensures { λ r. ⌜ (take r (now (records .exit)) ≡ joining (modelOf (now (image .entry))) count) × (r ≤ count) ⌝ }
+{
+    let mut n = 0;
+    let mut i = 0;
+    while i < count {
+        n = collect_one(image, layout, i, records, n);
+        i += 1;
+    }
+    n
+}
+
+// A member is external.
+pub fn some_external(image: &[u8], layout: Layout, externals: &[u8]) -> bool
+    requires { ⌜ Laid (now image) layout × Listed (modelOf (now image)) (now externals) ⌝ }
+    ensures { λ r. ⌜ r ≡ below (layout .connectors .count) (memberExternal (modelOf (now (image .entry)))) ⌝ }
+{
+    let connectors = layout.connectors;
+    let n = connectors.count;
+    let mut i = 0;
+    while i < n {
+        if member_external(image, layout, externals, i) {
+            return true;
+        }
+        i += 1;
+    }
+    false
+}

@@ -1,0 +1,26 @@
+-- `settle::settle` meets its contract.
+-- Assumes nothing.
+use borrow.Author.Needs.{needs}
+use Rattle.settle.proofs.Laws.{settled-none, settled-agree, settled-conflict, ready-fits}
+use Rattle.settle.proofs.settle.Statement.{statement}
+use Rattle.settle.proofs.settle.Tie as tie
+
+ruleset mine = (settled-none, settled-agree, settled-conflict, ready-fits, needs)
+
+pub settle-spec : {M : Type 1} → statement M
+settle-spec =
+    tie.close
+    (tie.spec
+    (λ c κs. search needs)
+    (λ c. search needs)
+    (λ c. search needs)
+    (λ c. search mine)
+    (λ c. search mine)
+    (λ c κs. search needs)
+    (λ c κs. search needs)
+    (λ c. search needs)
+    (λ c. search needs)
+    (λ c. search mine)
+    (λ c. search needs)
+    (λ c. search needs)
+    (λ c. search mine))
