@@ -1,7 +1,7 @@
 //! The stored answers are what the oracle says now.
 
 use std::fs;
-use std::path::Path;
+use std::path::{Path, PathBuf};
 
 use oracle::answer::answer;
 use oracle::coverage::Coverage;
@@ -11,9 +11,14 @@ use oracle::stored::{MAX_FILE, MAX_RECORD, files, images, record};
 const MOST_BYTES: usize = 2_000_000;
 const LEAST_GENERATED: usize = 500;
 
+/// The program that replays the stored answers.
+fn replay() -> PathBuf {
+    Path::new(env!("CARGO_MANIFEST_DIR")).join("../crates/replay")
+}
+
 #[test]
 fn stored_answers_are_up_to_date() {
-    let folder = Path::new(env!("CARGO_MANIFEST_DIR")).join("../answers");
+    let folder = replay().join("data");
     let files = files();
     for file in &files {
         let stored = fs::read(folder.join(&file.name)).expect("a stored file");
@@ -21,6 +26,15 @@ fn stored_answers_are_up_to_date() {
     }
     let there = fs::read_dir(&folder).expect("the folder").count();
     assert_eq!(there, files.len(), "a file too many in the folder");
+}
+
+/// Every file is replayed.
+#[test]
+fn every_file_is_an_argument() {
+    let args = fs::read_to_string(replay().join("args")).expect("the arguments");
+    let mut names: Vec<String> = files().into_iter().map(|file| file.name).collect();
+    names.sort();
+    assert_eq!(args.lines().collect::<Vec<_>>(), names);
 }
 
 #[test]

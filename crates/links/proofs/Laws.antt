@@ -412,6 +412,7 @@ module _ {m : Model} {links r : ℕ} {members₀ members : List ℕ} {c k : ℕ}
     cluster = g .missing (rw (← g .count) h) ∙ ap (λ (x : List ℕ). r ∷ x) (driven-same m r l);
     inside = g .inside;
     within = omega (arith, g .within, g .room);
+    few = g .within;
   }
 
   pub gathers-length : length members ≡ length members₀

@@ -58,3 +58,4 @@ pub record Gathered (m : Model) (r : ℕ) (members : List ℕ) (c : ℕ) : Type 
   pub cluster : take c members ≡ r ∷ driven m r
   pub inside : Inside (slotCount m) (take c members)
   pub within : c ≤ length members
+  pub few : c ≤ linkCount m + 1

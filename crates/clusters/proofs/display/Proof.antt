@@ -1,0 +1,18 @@
+-- `clusters::display` meets its contract.
+-- Assumes nothing.
+use borrow.Author.Needs.{needs}
+use Rattle.clusters.proofs.Laws.{display-none, display-differ}
+use Rattle.clusters.proofs.display.Statement.{statement}
+use Rattle.clusters.proofs.display.Tie as tie
+
+ruleset mine = (display-none, display-differ, needs)
+
+pub display-spec : {M : Type 1} → statement M
+display-spec =
+    tie.close
+    (tie.spec
+    (λ c κs. search needs)
+    (λ c κs. search needs)
+    (λ c. search needs)
+    (λ c. search mine)
+    (λ c. search mine))

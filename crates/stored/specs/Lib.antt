@@ -1,0 +1,2 @@
+-- Files of stored answers.
+pub mod Files
