@@ -26,7 +26,7 @@ use Rattle.oce_diag.proofs.Putting.{put-none, put-then, emits-start, emits-turn
 use Rattle.unify.specs.Slots.{unifiedDetails, displayDetail, bitOf}
 use Rattle.unify.specs.Unify.{declared, fill, conflict, conflictCode, fillFaults, displayFaults, fills, detailFaults, clusterFaults}
 use Rattle.slots.specs.Columns.{view, Room}
-use Rattle.slots.proofs.Counts.{connectors-few}
+use Rattle.records.proofs.Laws.{connectors-few}
 use Rattle.settle.specs.Settle.{Ready, Settled}
 use Rattle.clusters.specs.Clusters.{Detailed, Details, Displayed, Clustered}
 

@@ -25,31 +25,31 @@ use Rattle.records.specs.Records.{connectorRead, outputRead}
 use Rattle.structural.specs.Degrees.{degree}
 use Rattle.structural.specs.Structural.{inRange, matches}
 use Rattle.degrees.specs.Columns.{Degrees}
-use Rattle.unify.specs.Clusters.{drives, sound, target, alias, driven}
+use Rattle.unify.specs.Clusters.{drives, sound, target, alias, driven, isRoot}
 use Rattle.slots.specs.Columns.{slotCount, Inside}
-use Rattle.slots.proofs.Counts.{connectors-count, connections-count, outputs-count, connectors-few, connections-few, outputs-few}
+use Rattle.records.proofs.Laws.{connectors-counted, connections-counted, outputs-counted, connectors-few, connections-few, boundary-outputs-few}
 use Rattle.links.specs.Links.{linkCount, connectionRoot, outputRoot, rootOf, targetOf, member, Empty, Leads, Linked, Gathered}
 
 -- ---- by the layout
 
 module _ {s : List ℕ} {l : Layout} (h : Laid s l) where
   pub links-count : l .connections .count + l .outputs .count ≡ linkCount (modelOf s)
-  links-count = omega (arith, connections-count h, outputs-count h)
+  links-count = omega (arith, connections-counted h, outputs-counted h)
 
   pub links-fit : l .connections .count + l .outputs .count < 18446744073709551616
-  links-fit = omega (arith, connections-few h, outputs-few h)
+  links-fit = omega (arith, connections-few h, boundary-outputs-few h)
 
   -- link k is a connection, or else a boundary output
   pub link-output : {k : ℕ} → k < linkCount (modelOf s) → l .connections .count ≤ k → k - l .connections .count < l .outputs .count
-  link-output k o = omega (arith, connections-count h, outputs-count h)
+  link-output k o = omega (arith, connections-counted h, outputs-counted h)
 
   pub target-fits : {k : ℕ} → k < linkCount (modelOf s) → l .connectors .count + (k - l .connections .count) < 18446744073709551616
-  target-fits k = omega (arith, connectors-few h, connections-few h, outputs-few h, connections-count h, outputs-count h)
+  target-fits k = omega (arith, connectors-few h, connections-few h, boundary-outputs-few h, connections-counted h, outputs-counted h)
 
 -- ---- roots and targets, as code reads them
 
 pub degree-there : {s ds : List ℕ} {l : Layout} {t : ℕ} → Degrees (modelOf s) ds → Laid s l → t < l .connectors .count → t < length ds
-degree-there g h k = omega (arith, connectors-count h, g .room)
+degree-there g h k = omega (arith, connectors-counted h, g .room)
 
 module _ {s : List ℕ} {l : Layout} (h : Laid s l) {ds : List ℕ} (g : Degrees (modelOf s) ds) where
   module _ (k : ℕ) {q : Connection} (eq : q ≡ connection (modelOf s) k) where
@@ -57,31 +57,31 @@ module _ {s : List ℕ} {l : Layout} (h : Laid s l) {ds : List ℕ} (g : Degrees
     unfolding connectionRoot drives inRange
     connection-drives a b e =
         let m = modelOf s in
-        let a′ : q .from < connectorCount m = rw (connectors-count h) at a in
-        let b′ : q .to < connectorCount m = rw (connectors-count h) at b in
+        let a′ : q .from < connectorCount m = rw (connectors-counted h) at a in
+        let b′ : q .to < connectorCount m = rw (connectors-counted h) at b in
         let e′ : degree m (q .to) ≡ 1 = sym (g .each (q .to) b′) ∙ e in
         rw (← eq, lt-ltb _ _ a′, lt-ltb _ _ b′, eq-eqb _ _ e′)
 
     pub connection-from : l .connectors .count ≤ q .from → l .connectors .count ≡ connectionRoot (modelOf s) (connection (modelOf s) k)
     unfolding connectionRoot drives inRange
     connection-from a =
-        let a′ : connectorCount (modelOf s) ≤ q .from = rw (connectors-count h) at a in
-        connectors-count h ∙ rw (← eq, le-ltb _ _ a′)
+        let a′ : connectorCount (modelOf s) ≤ q .from = rw (connectors-counted h) at a in
+        connectors-counted h ∙ rw (← eq, le-ltb _ _ a′)
 
     pub connection-to : q .from < l .connectors .count → l .connectors .count ≤ q .to → l .connectors .count ≡ connectionRoot (modelOf s) (connection (modelOf s) k)
     unfolding connectionRoot drives inRange
     connection-to a b =
-        let a′ : q .from < connectorCount (modelOf s) = rw (connectors-count h) at a in
-        let b′ : connectorCount (modelOf s) ≤ q .to = rw (connectors-count h) at b in
-        connectors-count h ∙ rw (← eq, lt-ltb _ _ a′, le-ltb _ _ b′)
+        let a′ : q .from < connectorCount (modelOf s) = rw (connectors-counted h) at a in
+        let b′ : connectorCount (modelOf s) ≤ q .to = rw (connectors-counted h) at b in
+        connectors-counted h ∙ rw (← eq, lt-ltb _ _ a′, le-ltb _ _ b′)
 
     pub connection-degree : q .from < l .connectors .count → q .to < l .connectors .count → (getD ds (q .to) 0 ≡ 1 → ⊥) → l .connectors .count ≡ connectionRoot (modelOf s) (connection (modelOf s) k)
     unfolding connectionRoot drives inRange
     connection-degree a b e =
         let m = modelOf s in
-        let a′ : q .from < connectorCount m = rw (connectors-count h) at a in
-        let b′ : q .to < connectorCount m = rw (connectors-count h) at b in
-        connectors-count h ∙ rw (← eq, lt-ltb _ _ a′, lt-ltb _ _ b′, ne-eqb _ _ (λ x. e (g .each (q .to) b′ ∙ x)))
+        let a′ : q .from < connectorCount m = rw (connectors-counted h) at a in
+        let b′ : q .to < connectorCount m = rw (connectors-counted h) at b in
+        connectors-counted h ∙ rw (← eq, lt-ltb _ _ a′, lt-ltb _ _ b′, ne-eqb _ _ (λ x. e (g .each (q .to) b′ ∙ x)))
 
 module _ {s : List ℕ} {l : Layout} (h : Laid s l) (i : ℕ) {q : BoundaryOutput} (eq : q ≡ outputRead (boundaryOutput (modelOf s) i)) where
   same-source : q .source .0 ≡ boundaryOutput (modelOf s) i .source
@@ -91,12 +91,12 @@ module _ {s : List ℕ} {l : Layout} (h : Laid s l) (i : ℕ) {q : BoundaryOutpu
   pub output-far : l .connectors .count ≤ q .source .0 → l .connectors .count ≡ outputRoot (modelOf s) (boundaryOutput (modelOf s) i)
   unfolding outputRoot sound
   output-far a =
-      let a′ : connectorCount (modelOf s) ≤ boundaryOutput (modelOf s) i .source = rw (connectors-count h, same-source) at a in
-      connectors-count h ∙ rw (le-ltb _ _ a′)
+      let a′ : connectorCount (modelOf s) ≤ boundaryOutput (modelOf s) i .source = rw (connectors-counted h, same-source) at a in
+      connectors-counted h ∙ rw (le-ltb _ _ a′)
 
   module _ (a : q .source .0 < l .connectors .count) {c : Connector} (ec : c ≡ connectorRead (connector (modelOf s) (q .source .0))) where
     near : boundaryOutput (modelOf s) i .source < connectorCount (modelOf s)
-    near = rw (connectors-count h, same-source) at a
+    near = rw (connectors-counted h, same-source) at a
 
     same-dir : c .dir ≡ connector (modelOf s) (boundaryOutput (modelOf s) i .source) .dir
     unfolding connectorRead
@@ -108,7 +108,7 @@ module _ {s : List ℕ} {l : Layout} (h : Laid s l) (i : ℕ) {q : BoundaryOutpu
 
     pub output-in : c .dir ≡ dirIn → l .connectors .count ≡ outputRoot (modelOf s) (boundaryOutput (modelOf s) i)
     unfolding outputRoot sound
-    output-in e = connectors-count h ∙ rw (lt-ltb _ _ near, eq-eqb _ _ (sym same-dir ∙ e))
+    output-in e = connectors-counted h ∙ rw (lt-ltb _ _ near, eq-eqb _ _ (sym same-dir ∙ e))
 
     module _ (at : ℕ) {k : ℕ} (d : c .dir ≡ dirIn → ⊥) (ea : attrsAt s at ≡ boundaryOutput (modelOf s) i .attrs) (ek : k ≡ attrsAt s at .kind) where
       pub output-sound : k ≡ c .kind → q .source .0 ≡ outputRoot (modelOf s) (boundaryOutput (modelOf s) i)
@@ -120,33 +120,33 @@ module _ {s : List ℕ} {l : Layout} (h : Laid s l) (i : ℕ) {q : BoundaryOutpu
       pub output-other : (k ≡ c .kind → ⊥) → l .connectors .count ≡ outputRoot (modelOf s) (boundaryOutput (modelOf s) i)
       unfolding outputRoot sound
       output-other e =
-          connectors-count h
+          connectors-counted h
           ∙ rw (lt-ltb _ _ near, ne-eqb _ _ (λ x. d (same-dir ∙ x)), ne-eqb _ _ (λ x. e (ek ∙ ap (λ a. a .kind) ea ∙ x ∙ sym same-kind)))
 
 module _ {s : List ℕ} {l : Layout} (h : Laid s l) {k : ℕ} where
   pub root-connection : {r : ℕ} → k < l .connections .count → r ≡ connectionRoot (modelOf s) (connection (modelOf s) k) → r ≡ rootOf (modelOf s) k
   unfolding rootOf
   root-connection a e =
-      let a′ : k < connectionCount (modelOf s) = rw (connections-count h) at a in
+      let a′ : k < connectionCount (modelOf s) = rw (connections-counted h) at a in
       e ∙ rw (lt-ltb _ _ a′)
 
   pub root-output : {r : ℕ} → l .connections .count ≤ k → r ≡ outputRoot (modelOf s) (boundaryOutput (modelOf s) (k - l .connections .count)) → r ≡ rootOf (modelOf s) k
   unfolding rootOf
   root-output a e =
-      let a′ : connectionCount (modelOf s) ≤ k = rw (connections-count h) at a in
-      e ∙ rw (le-ltb _ _ a′, connections-count h)
+      let a′ : connectionCount (modelOf s) ≤ k = rw (connections-counted h) at a in
+      e ∙ rw (le-ltb _ _ a′, connections-counted h)
 
   pub target-connection : {q : Connection} → k < l .connections .count → q ≡ connection (modelOf s) k → q .to ≡ targetOf (modelOf s) k
   unfolding targetOf
   target-connection a e =
-      let a′ : k < connectionCount (modelOf s) = rw (connections-count h) at a in
+      let a′ : k < connectionCount (modelOf s) = rw (connections-counted h) at a in
       rw (lt-ltb _ _ a′, ← e)
 
   pub target-output : l .connections .count ≤ k → l .connectors .count + (k - l .connections .count) ≡ targetOf (modelOf s) k
   unfolding targetOf
   target-output a =
-      let a′ : connectionCount (modelOf s) ≤ k = rw (connections-count h) at a in
-      rw (le-ltb _ _ a′, connections-count h, connectors-count h)
+      let a′ : connectionCount (modelOf s) ≤ k = rw (connections-counted h) at a in
+      rw (le-ltb _ _ a′, connections-counted h, connectors-counted h)
 
 -- ---- the links of a root are its cluster
 
@@ -196,6 +196,23 @@ member-miss m r k n = rw (ne-eqb _ _ n)
 
 skip : (m : Model) (r k : ℕ) → (rootOf m k ≡ r → ⊥) → each (k + 1) (member m r) ≡ each k (member m r)
 skip m r k n = each-next k (member m r) ∙ rw (member-miss m r k n, append-nil (each k (member m r)))
+
+-- a connector that a link belongs to is a root
+pub root-of-hit : (m : Model) (r k : ℕ) → r < connectorCount m → k < linkCount m → rootOf m k ≡ r → isRoot m r ≡ true
+unfolding isRoot
+root-of-hit m r k l h e =
+    let y = linkCount m - (k + 1) in
+    let split : linkCount m ≡ (k + 1) + y = omega arith in
+    let f = member m r in
+    let some-member : driven m r ≡ (each k f ++ (targetOf m k ∷ [])) ++ each y (λ i. f (k + 1 + i)) =
+    sym (driven-same m r l) ∙ ap (λ (x : ℕ). each x f) split ∙ each-add (k + 1) y f ∙ rw (each-next k f, member-hit m r k e) in
+    lt-ltb 0 (length (driven m r))
+    (rw some-member (rw (length-append (each k f ++ (targetOf m k ∷ [])) (each y (λ i. f (k + 1 + i)))) (omega (arith, length-append (each k f) (targetOf m k ∷ [])))))
+
+-- one whose list is empty is none
+pub root-of-none : (m : Model) (r k : ℕ) → r < connectorCount m → Leads m r 0 k → linkCount m ≤ k → isRoot m r ≡ false
+unfolding isRoot each
+root-of-none m r k l v h = rw (← driven-same m r l, v .missing h)
 
 -- a link of another root lies between
 leads-past : (m : Model) (r i k : ℕ) → (rootOf m i ≡ r → ⊥) → Leads m r (i + 1) k → Leads m r i k
@@ -255,18 +272,18 @@ linked-push {m} {k} {head} {next} {head′} {next′} {r} v er h l eh en = recor
     nexts i g y b (no n) = rw (getD-set-other next k i (getD head r 0) 0 n) (v .nexts i (omega arith) y b)
 
 pub head-there : {s : List ℕ} {l : Layout} (k : ℕ) {r : ℕ} {head next : List ℕ} → Linked (modelOf s) (k + 1) head next → Laid s l → r < l .connectors .count → r < length head
-head-there k v h a = omega (arith, connectors-count h, v .room)
+head-there k v h a = omega (arith, connectors-counted h, v .room)
 
 pub next-there : (m : Model) (k : ℕ) {head next : List ℕ} → Linked m (k + 1) head next → k < linkCount m → k < length next
 next-there m k v a = omega (arith, v .room′)
 
 module _ {s : List ℕ} {l : Layout} (h : Laid s l) {k r : ℕ} {head next : List ℕ} (v : Linked (modelOf s) (k + 1) head next) where
   pub link-skip : r ≡ rootOf (modelOf s) k → l .connectors .count ≤ r → Linked (modelOf s) k head next
-  link-skip e a = linked-skip v e (rw (connectors-count h) at a)
+  link-skip e a = linked-skip v e (rw (connectors-counted h) at a)
 
   pub link-push : {head′ next′ : List ℕ} → head′ ≡ set head r k → next′ ≡ set next k (getD head r 0) → r ≡ rootOf (modelOf s) k → r < l .connectors .count → k < linkCount (modelOf s)
       → Linked (modelOf s) k head′ next′
-  link-push eh en e a b = linked-push v e (rw (connectors-count h) at a) b eh en
+  link-push eh en e a b = linked-push v e (rw (connectors-counted h) at a) b eh en
 
 -- ---- the loop that builds them
 

@@ -19,7 +19,7 @@ use Rattle.oce_diag.proofs.Putting.{put-none, emits-start, emits-turn, emits-pu
 use Rattle.unify.specs.Clusters.{driven, isRoot}
 use Rattle.unify.specs.Unify.{fillRoot, rootFaults, filledTo, filledSlots, rule6}
 use Rattle.slots.specs.Columns.{view, Room}
-use Rattle.slots.proofs.Counts.{connectors-count, connectors-few, connections-few, outputs-few, connections-count, outputs-count}
+use Rattle.records.proofs.Laws.{connectors-counted, connectors-few, connections-few, boundary-outputs-few, connections-counted, outputs-counted}
 use Rattle.slots_image.specs.Loading.{Read}
 use Rattle.links.specs.Links.{linkCount, Linked, Gathered}
 use Rattle.settle.specs.Settle.{Ready}
@@ -59,7 +59,7 @@ from-zero c l = let e : c - 0 ≡ c = omega arith in rw e
 
 module _ {image : List ℕ} {layout : Layout} {texts head next : List ℕ} {s : ℕ} {ks ms ns members : List ℕ} (y : Stage image layout texts head next s ks ms ns members) where
   pub stage-root : {r : ℕ} → r < layout .connectors .count → r < connectorCount (modelOf image)
-  stage-root h = rw (← connectors-count (y .laid)) h
+  stage-root h = rw (← connectors-counted (y .laid)) h
 
   pub stage-ready : {r k : ℕ} {members′ js : List ℕ} → Gathered (modelOf image) r members′ k → js ≡ take k members′ → Ready image layout texts s ks ms ns js
   stage-ready {k = k} {members′ = members′} {js = js} g e = record {
@@ -72,7 +72,7 @@ module _ {image : List ℕ} {layout : Layout} {texts head next : List ℕ} {s : 
     where
       small : length js < 4294967296
       small = rw (e, length-take-le k members′ (g .within))
-          (omega (arith, g .few, connections-count (y .laid), outputs-count (y .laid), connections-few (y .laid), outputs-few (y .laid)))
+          (omega (arith, g .few, connections-counted (y .laid), outputs-counted (y .laid), connections-few (y .laid), boundary-outputs-few (y .laid)))
 
   pub stage-moved : {ms′ ns′ members′ : List ℕ} → length ms′ ≡ length ms → length ns′ ≡ length ns → length members′ ≡ length members → Stage image layout texts head next s ks ms′ ns′ members′
   stage-moved lm ln lc = record {
@@ -108,7 +108,7 @@ module _ {image : List ℕ} {layout : Layout} {texts head next : List ℕ} {s n 
     long = refl;
     slots = v .slots;
     emits = emits-start;
-    same = e ∙ connectors-count (y .laid);
+    same = e ∙ connectors-counted (y .laid);
     before = l;
   }
 
@@ -117,13 +117,13 @@ module _ {image : List ℕ} {layout : Layout} {texts head next : List ℕ} {s n 
     roots-stage = v .stage
 
     pub roots-inside : r < n → r < layout .connectors .count
-    roots-inside h = omega (arith, v .same, connectors-count (v .stage .laid))
+    roots-inside h = omega (arith, v .same, connectors-counted (v .stage .laid))
 
     pub roots-few : r < n → total c′ ≤ 2000000
-    roots-few h = omega (arith, v .emits .few, v .before, v .same, connectors-count (v .stage .laid), connectors-few (v .stage .laid))
+    roots-few h = omega (arith, v .emits .few, v .before, v .same, connectors-counted (v .stage .laid), connectors-few (v .stage .laid))
 
     pub roots-fit : r < n → r + 1 < 18446744073709551616
-    roots-fit h = omega (arith, v .same, connectors-count (v .stage .laid), connectors-few (v .stage .laid))
+    roots-fit h = omega (arith, v .same, connectors-counted (v .stage .laid), connectors-few (v .stage .laid))
 
     pub roots-turn : {ms′ ns′ members′ b″ : List ℕ} {c″ : Counted} → Rooted (modelOf image) r s ks ms ns ms′ ns′ b′ c′ b″ c″ → r < n
         → length ms′ ≡ length ms → length ns′ ≡ length ns → length members′ ≡ length members → Roots image layout texts head next s n ks ms₀ ns₀ members₀ ms′ ns′ members′ b c b″ c″ (r + 1)

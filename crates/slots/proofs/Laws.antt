@@ -32,7 +32,7 @@ pub kind-view : (s : ℕ) (ks ms ns : List ℕ) (j : ℕ) → j < s → slot (vi
 unfolding attrsOf
 kind-view s ks ms ns j h = rw (slot-view s ks ms ns j h)
 
-marks-view : (s : ℕ) (ks ms ns : List ℕ) (j : ℕ) → j < s → slot (view s ks ms ns) j .marks ≡ getD ms j 0
+pub marks-view : (s : ℕ) (ks ms ns : List ℕ) (j : ℕ) → j < s → slot (view s ks ms ns) j .marks ≡ getD ms j 0
 unfolding attrsOf
 marks-view s ks ms ns j h = rw (slot-view s ks ms ns j h)
 

@@ -1,3 +1,3 @@
 pub mod Laws
 pub mod Marks
-pub mod Counts
+pub mod Model

@@ -19,7 +19,8 @@ use Rattle.accept.specs.declared.Layout.{Layout}
 use Rattle.unify.specs.Slots.{slotsOf, slot}
 use Rattle.slots.specs.Columns.{width, used, attrsOf, view, slotCount, Room}
 use Rattle.slots.proofs.Laws.{view-next}
-use Rattle.slots.proofs.Counts.{connectors-count, outputs-count, connectors-few, outputs-few, slot-connector, slot-output, slots-length}
+use Rattle.records.proofs.Laws.{connectors-counted, outputs-counted, connectors-few, boundary-outputs-few}
+use Rattle.slots.proofs.Model.{slot-connector, slot-output, slots-length}
 use Rattle.slots_image.specs.Loading.{Loaded, Read}
 
 -- ---- one slot's numbers
@@ -65,24 +66,24 @@ slot-loaded s at j {ks} {ms} {ns} room ek em en = rw (ek, em) (loaded j (attrsAt
 module _ {s : List ℕ} {l : Layout} (h : Laid s l) {j : ℕ} (at : ℕ) {ks ms ns ks′ ms′ ns′ : List ℕ} where
   pub connector-loaded : Loaded j (attrsAt s at) ks ms ns ks′ ms′ ns′ → attrsAt s at ≡ connector (modelOf s) j .attrs → j < l .connectors .count
       → Loaded j (slot (slotsOf (modelOf s)) j) ks ms ns ks′ ms′ ns′
-  connector-loaded v e k = record { slot = v .slot ∙ e ∙ sym (slot-connector (modelOf s) j (rw (connectors-count h) at k)); before = v .before }
+  connector-loaded v e k = record { slot = v .slot ∙ e ∙ sym (slot-connector (modelOf s) j (rw (connectors-counted h) at k)); before = v .before }
 
   pub output-loaded : Loaded j (attrsAt s at) ks ms ns ks′ ms′ ns′ → attrsAt s at ≡ boundaryOutput (modelOf s) (j - l .connectors .count) .attrs → l .connectors .count ≤ j
       → j < slotCount (modelOf s) → Loaded j (slot (slotsOf (modelOf s)) j) ks ms ns ks′ ms′ ns′
   output-loaded v e k b = record {
-    slot = v .slot ∙ e ∙ rw (connectors-count h) (sym (slot-output (modelOf s) j (rw (connectors-count h) at k) b));
+    slot = v .slot ∙ e ∙ rw (connectors-counted h) (sym (slot-output (modelOf s) j (rw (connectors-counted h) at k) b));
     before = v .before;
   }
 
 module _ {s : List ℕ} {l : Layout} (h : Laid s l) where
   pub output-there : {j : ℕ} → l .connectors .count ≤ j → j < slotCount (modelOf s) → j - l .connectors .count < l .outputs .count
-  output-there k b = omega (arith, connectors-count h, outputs-count h)
+  output-there k b = omega (arith, connectors-counted h, outputs-counted h)
 
   pub connector-fits : {j : ℕ} → j < l .connectors .count → j < 4294967296
   connector-fits k = omega (arith, connectors-few h)
 
   pub counts-fit : l .connectors .count + l .outputs .count < 18446744073709551616
-  counts-fit = omega (arith, connectors-few h, outputs-few h)
+  counts-fit = omega (arith, connectors-few h, boundary-outputs-few h)
 
 -- ---- the loop
 
@@ -100,7 +101,7 @@ pub loads-start : {b : List ℕ} {l : Layout} {s : ℕ} {ks₀ ms₀ ns₀ : Lis
     → Loads (modelOf b) s ks₀ ms₀ ns₀ ks₀ ms₀ ns₀ 0
 unfolding view each
 loads-start {b} {s = s} h r e =
-    let q : s ≡ slotCount (modelOf b) = omega (arith, connectors-count h, outputs-count h) in
+    let q : s ≡ slotCount (modelOf b) = omega (arith, connectors-counted h, outputs-counted h) in
     record { count = q; within = omega arith; room = rw q r; same = refl; kinds = refl; marks = refl; nums = refl }
 
 module _ {m : Model} {s : ℕ} {ks₀ ms₀ ns₀ ks ms ns : List ℕ} {j : ℕ} (v : Loads m s ks₀ ms₀ ns₀ ks ms ns j) where

@@ -1,0 +1,6 @@
+-- Runs of the sorted members are the groups, and the pass reports them.
+pub mod Runs
+pub mod Existing
+pub mod Whole
+pub mod Laws
+pub mod Reporting

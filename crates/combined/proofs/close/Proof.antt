@@ -1,0 +1,19 @@
+-- `combined::close` meets its contract.
+-- Assumes nothing.
+use borrow.Author.Needs.{needs}
+use Rattle.combined.proofs.Laws.{close-put}
+use Rattle.combined.proofs.close.Statement.{statement}
+use Rattle.combined.proofs.close.Tie as tie
+
+pub close-spec : {M : Type 1} → statement M
+close-spec =
+    tie.close
+    (tie.spec
+    (λ c κs. search needs)
+    (λ c. search needs)
+    (λ c. search needs)
+    (λ c κs. search needs)
+    (λ c κs. search needs)
+    (λ c κs. search needs)
+    (λ c. search needs)
+    (λ c. search (close-put, needs)))

@@ -1,0 +1,15 @@
+-- `combined::grow` meets its contract.
+-- Assumes nothing.
+use borrow.Author.Needs.{needs}
+use Rattle.combined.proofs.Laws.{grown-is}
+use Rattle.combined.proofs.grow.Statement.{statement}
+use Rattle.combined.proofs.grow.Tie as tie
+
+pub grow-spec : {M : Type 1} → statement M
+grow-spec =
+    tie.close
+    (tie.spec
+    (λ c. search needs)
+    (λ c κs. search needs)
+    (λ c κs. search needs)
+    (λ c. search (grown-is, needs)))

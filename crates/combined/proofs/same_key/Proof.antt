@@ -1,0 +1,15 @@
+-- `combined::same_key` meets its contract.
+-- Assumes nothing.
+use borrow.Author.Needs.{needs}
+use Rattle.combined.proofs.Laws.{same-key}
+use Rattle.combined.proofs.same_key.Statement.{statement}
+use Rattle.combined.proofs.same_key.Tie as tie
+
+pub same-key-spec : {M : Type 1} → statement M
+same-key-spec =
+    tie.close
+    (tie.spec
+    (λ c κs. search needs)
+    (λ c κs. search needs)
+    (λ c κs. search needs)
+    (λ c. search (same-key, needs)))

@@ -1,0 +1,20 @@
+-- `combined::step` meets its contract.
+-- Assumes nothing.
+use borrow.Author.Needs.{needs}
+use Rattle.combined.proofs.Laws.{step-grow, step-open}
+use Rattle.combined.proofs.step.Statement.{statement}
+use Rattle.combined.proofs.step.Tie as tie
+
+pub step-spec : {M : Type 1} → statement M
+step-spec =
+    tie.close
+    (tie.spec
+    (λ c κs. search needs)
+    (λ c κs. search needs)
+    (λ c κs. search needs)
+    (λ c κs. search needs)
+    (λ c. search (step-grow, step-open, needs))
+    (λ c κs. search needs)
+    (λ c κs. search needs)
+    (λ c. search needs)
+    (λ c. search (step-grow, step-open, needs)))

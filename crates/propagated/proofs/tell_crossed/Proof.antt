@@ -1,0 +1,20 @@
+-- `propagated::tell_crossed` meets its contract.
+-- Assumes nothing.
+use borrow.Author.Needs.{needs}
+use Rattle.clusters.proofs.Laws.{root-fits}
+use Rattle.propagated.proofs.Laws.{told-crossed}
+use Rattle.propagated.proofs.tell_crossed.Statement.{statement}
+use Rattle.propagated.proofs.tell_crossed.Tie as tie
+
+ruleset mine = (root-fits, told-crossed, needs)
+
+pub tell-crossed-spec : {M : Type 1} → statement M
+tell-crossed-spec =
+    tie.close
+    (tie.spec
+    (λ c κs. search needs)
+    (λ c. search mine)
+    (λ c κs. search needs)
+    (λ c κs. search needs)
+    (λ c. search needs)
+    (λ c. search mine))
