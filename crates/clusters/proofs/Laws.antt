@@ -4,7 +4,7 @@ use Prim.Native.Nat.{ℕ, _+_, _≤_, _<_}
 use native.Mathlib.Omega.{arith}
 use mathlib.Core.Path.{_≡_, refl, sym, ap, _∙_}
 use mathlib.Core.Bool.{Bool, true, false}
-use mathlib.Core.List.{List, [], _∷_, _++_}
+use mathlib.Core.List.{List, [], _∷_}
 use lib.ListN.{length}
 use borrow.Author.Tests.{lt-ltb, le-ltb}
 use Rattle.base.specs.Lists.{steps}
@@ -21,11 +21,11 @@ use Rattle.oce_diag.specs.declared.DiagCode.{DiagCode}
 use Rattle.oce_diag.specs.declared.DiagCode.the-variants.{UnitQuantityMismatch, BoundMismatch, DisplayUnitDivergence}
 use Rattle.oce_diag.specs.declared.Diagnostic.{Diagnostic}
 use Rattle.oce_diag.specs.declared.Subject.{Subject}
-use Rattle.oce_diag.specs.Putting.{total, Put, Emits}
+use Rattle.oce_diag.specs.Putting.{total, Put}
 use Rattle.oce_diag.proofs.Putting.{put-none, put-then, emits-start, emits-turn, emits-put, emits-length}
 use Rattle.unify.specs.Slots.{unifiedDetails, displayDetail, bitOf}
 use Rattle.unify.specs.Unify.{declared, fill, conflict, conflictCode, fillFaults, displayFaults, fills, detailFaults, clusterFaults}
-use Rattle.slots.specs.Columns.{view, Room}
+use Rattle.slots.specs.Columns.{view}
 use Rattle.records.proofs.Laws.{connectors-few}
 use Rattle.settle.specs.Settle.{Ready, Settled}
 use Rattle.clusters.specs.Clusters.{Detailed, Details, Displayed, Clustered}

@@ -12,7 +12,7 @@ use native.Mathlib.Decide.{decLt}
 use borrow.Author.Tests.{lt-ltb, le-ltb}
 use Rattle.base.specs.Lists.{each, tab, only, same, below}
 use Rattle.base.proofs.Lists.{length-tab, getD-tab}
-use Rattle.oce_model.specs.Format.{most, connectorTag, boundaryInputTag}
+use Rattle.oce_model.specs.Format.{most, connectorTag, boundaryInputTag, boundaryOutputTag}
 use Rattle.oce_model.specs.Texts.{order, isEqual}
 use Rattle.oce_model.specs.Model.{Model, modelOf, text, connectorCount, boundaryInput, boundaryInputCount, noBoundaryInput}
 use Rattle.oce_diag.specs.Diagnostics.{error}
@@ -146,15 +146,27 @@ first-member a h = a .at 0 (omega arith)
 -- ---- the column of iris gives the keys
 
 module _ {s : List ℕ} {l : Layout} (h : Laid s l) where
-  -- an image has no more members than the table allows
-  pub members-few : memberCount l ≤ 1280
+  -- an image has no more records than the table allows
+  pub connectors-few : l .connectors .count ≤ 1024
   unfolding layoutOf sectionOf offsetsOf most
-  members-few =
+  connectors-few =
       let f : length (offsetsOf connectorTag s) ≤ 1024 = accepted-room connectorTag s (h .accepted) (omega arith) in
-      let g : length (offsetsOf boundaryInputTag s) ≤ 256 = accepted-room boundaryInputTag s (h .accepted) (omega arith) in
-      let a : l .connectors .count ≤ 1024 = rw (h .layout) (rw length-map at f) in
-      let b : l .inputs .count ≤ 256 = rw (h .layout) (rw length-map at g) in
-      omega arith
+      rw (h .layout) (rw length-map at f)
+
+  pub inputs-few : l .inputs .count ≤ 256
+  unfolding layoutOf sectionOf offsetsOf most
+  inputs-few =
+      let f : length (offsetsOf boundaryInputTag s) ≤ 256 = accepted-room boundaryInputTag s (h .accepted) (omega arith) in
+      rw (h .layout) (rw length-map at f)
+
+  pub outputs-few : l .outputs .count ≤ 256
+  unfolding layoutOf sectionOf offsetsOf most
+  outputs-few =
+      let f : length (offsetsOf boundaryOutputTag s) ≤ 256 = accepted-room boundaryOutputTag s (h .accepted) (omega arith) in
+      rw (h .layout) (rw length-map at f)
+
+  pub members-few : memberCount l ≤ 1280
+  members-few = omega (arith, connectors-few, inputs-few)
 
   iri-is : (x : ℕ) → getD (tab (memberCount l) (memberIri (modelOf s))) x 0 ≡ memberIri (modelOf s) x
   unfolding memberIri boundaryInput noBoundaryInput

@@ -5,7 +5,7 @@ use native.Mathlib.Numerals.{add-one}
 use native.Mathlib.Decide.{decLt, ℕ-discrete}
 use native.Mathlib.Omega.{arith}
 use mathlib.Core.Path.{_≡_, refl, sym, ap, _∙_}
-use mathlib.Core.Bool.{Bool, true, false, cond, not, _&&_}
+use mathlib.Core.Bool.{Bool, true, false, cond, _&&_}
 use mathlib.Core.List.{List, [], _∷_, _++_, append-nil}
 use lib.Dec.{eqb, ltb}
 use lib.ListN.{length, getD, set, take, length-set, length-append, List·getD-append}
@@ -15,7 +15,7 @@ use Rattle.base.specs.Lists.{each, only}
 use Rattle.base.proofs.Lists.{and-parts, each-next, each-add, each-same}
 use Rattle.oce_model.specs.Format.{dirIn}
 use Rattle.oce_model.specs.Attributes.{attrsAt}
-use Rattle.oce_model.specs.Model.{Model, modelOf, connector, connection, boundaryOutput, connectorCount, connectionCount, boundaryOutputCount, isConnector, isIn}
+use Rattle.oce_model.specs.Model.{Model, modelOf, connector, connection, boundaryOutput, connectorCount, connectionCount, boundaryOutputCount, isConnector}
 use Rattle.oce_model.specs.declared.Connection.{Connection}
 use Rattle.oce_model.specs.declared.Connector.{Connector}
 use Rattle.oce_model.specs.declared.BoundaryOutput.{BoundaryOutput}
@@ -23,7 +23,7 @@ use Rattle.accept.specs.Layout.{Laid}
 use Rattle.accept.specs.declared.Layout.{Layout}
 use Rattle.records.specs.Records.{connectorRead, outputRead}
 use Rattle.structural.specs.Degrees.{degree}
-use Rattle.structural.specs.Structural.{inRange, matches}
+use Rattle.structural.specs.Structural.{inRange}
 use Rattle.degrees.specs.Columns.{Degrees}
 use Rattle.unify.specs.Clusters.{drives, sound, target, alias, driven, isRoot}
 use Rattle.slots.specs.Columns.{slotCount, Inside}

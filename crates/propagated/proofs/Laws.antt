@@ -2,10 +2,10 @@
 -- Assumes nothing.
 use Prim.Native.Nat.{ℕ, _+_, _*_, _≤_, _<_}
 use native.Mathlib.Omega.{arith}
-use mathlib.Core.Path.{_≡_, refl, sym, ap, _∙_}
+use mathlib.Core.Path.{_≡_, refl, _∙_}
 use mathlib.Core.Bool.{Bool, true, false, cond, _&&_}
 use mathlib.Core.List.{List, [], _∷_}
-use mathlib.Core.Option.{Option, none, some}
+use mathlib.Core.Option.{some}
 use lib.ListN.{length, getD}
 use lib.IntN.{ℤ}
 use lib.Signed.{ltZ}
@@ -17,7 +17,7 @@ use mir.Facts.{toZ-ofZ}
 use borrow.Author.Tests.{eq-eqb, ne-eqb}
 use Rattle.numbers.specs.Bytes.{bit, signed64, real64}
 use Rattle.oce_model.specs.Format.{realKind, integerKind, minBit, maxBit}
-use Rattle.oce_model.specs.Attributes.{Attrs, num, marked, declaredAt}
+use Rattle.oce_model.specs.Attributes.{num, marked, declaredAt}
 use Rattle.oce_model.specs.Model.{Model, modelOf, connector, connectorCount}
 use Rattle.accept.specs.Layout.{Laid, layoutOf}
 use Rattle.accept.specs.declared.Layout.{Layout}
@@ -37,7 +37,7 @@ use Rattle.bounds.proofs.Laws.{back}
 use Rattle.unify.specs.Clusters.{isRoot}
 use Rattle.unify.specs.Slots.{slot}
 use Rattle.unify.specs.Unify.{filledSlots, propagatedFaults, propagated}
-use Rattle.slots.specs.Columns.{view, slotCount, Room}
+use Rattle.slots.specs.Columns.{view}
 use Rattle.slots.proofs.Laws.{kind-view, marks-view}
 use Rattle.records.proofs.Laws.{connectors-counted, connectors-few, connections-few, boundary-outputs-few}
 use Rattle.links.specs.Links.{linkCount, Linked}

@@ -12,7 +12,7 @@ use Rattle.accept.specs.declared.Layout.{Layout}
 use Rattle.oce_diag.specs.declared.Counted.{Counted}
 use Rattle.oce_diag.specs.Putting.{total, Put}
 use Rattle.unify.specs.Slots.{slot}
-use Rattle.unify.specs.Unify.{filledSlots, propagatedFaults, propagated}
+use Rattle.unify.specs.Unify.{propagatedFaults, propagated}
 use Rattle.slots.specs.Columns.{slotCount, view, Room}
 use Rattle.links.specs.Links.{Leads}
 

@@ -1,27 +1,26 @@
 -- Laws of rule 6 over all roots.
 -- Assumes nothing.
-use Prim.Native.Nat.{ℕ, suc, _+_, _*_, _-_, _≤_, _<_}
+use Prim.Native.Nat.{ℕ, suc, _+_, _-_, _≤_, _<_}
 use native.Mathlib.Omega.{arith}
 use mathlib.Core.Path.{_≡_, refl, sym, ap, _∙_}
 use mathlib.Core.Bool.{true, false}
-use mathlib.Core.List.{List, _∷_}
+use mathlib.Core.List.{List}
 use lib.ListN.{length, take}
 use lib.Seq.{length-take-le}
 use borrow.Author.Tests.{lt-ltb, le-ltb}
 use Rattle.base.specs.Lists.{steps}
 use Rattle.base.proofs.Lists.{steps-next}
 use Rattle.oce_model.specs.Model.{Model, modelOf, connectorCount}
-use Rattle.accept.specs.Layout.{Laid}
 use Rattle.accept.specs.declared.Layout.{Layout}
 use Rattle.oce_diag.specs.declared.Counted.{Counted}
-use Rattle.oce_diag.specs.Putting.{total, Put, Emits}
+use Rattle.oce_diag.specs.Putting.{total, Emits}
 use Rattle.oce_diag.proofs.Putting.{put-none, emits-start, emits-turn, emits-put, emits-length, emits-few}
 use Rattle.unify.specs.Clusters.{driven, isRoot}
 use Rattle.unify.specs.Unify.{fillRoot, rootFaults, filledTo, filledSlots, rule6}
-use Rattle.slots.specs.Columns.{view, Room}
+use Rattle.slots.specs.Columns.{view}
 use Rattle.records.proofs.Laws.{connectors-counted, connectors-few, connections-few, boundary-outputs-few, connections-counted, outputs-counted}
 use Rattle.slots_image.specs.Loading.{Read}
-use Rattle.links.specs.Links.{linkCount, Linked, Gathered}
+use Rattle.links.specs.Links.{Gathered}
 use Rattle.settle.specs.Settle.{Ready}
 use Rattle.clusters.specs.Clusters.{Clustered}
 use Rattle.roots.specs.Roots.{Stage, Rooted, Unified}
@@ -119,8 +118,8 @@ module _ {image : List ℕ} {layout : Layout} {texts head next : List ℕ} {s n 
     pub roots-inside : r < n → r < layout .connectors .count
     roots-inside h = omega (arith, v .same, connectors-counted (v .stage .laid))
 
-    pub roots-few : r < n → total c′ ≤ 2000000
-    roots-few h = omega (arith, v .emits .few, v .before, v .same, connectors-counted (v .stage .laid), connectors-few (v .stage .laid))
+    pub roots-total : total c′ ≤ 2000000
+    roots-total = omega (arith, v .emits .few, v .emits .within, v .before, v .same, connectors-counted (v .stage .laid), connectors-few (v .stage .laid))
 
     pub roots-fit : r < n → r + 1 < 18446744073709551616
     roots-fit h = omega (arith, v .same, connectors-counted (v .stage .laid), connectors-few (v .stage .laid))

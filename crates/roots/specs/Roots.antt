@@ -9,8 +9,8 @@ use Rattle.oce_model.specs.Model.{Model, modelOf, connectorCount}
 use Rattle.accept.specs.Layout.{Laid, Tabled}
 use Rattle.accept.specs.declared.Layout.{Layout}
 use Rattle.oce_diag.specs.declared.Counted.{Counted}
-use Rattle.oce_diag.specs.Putting.{total, Put, Emits}
-use Rattle.unify.specs.Unify.{fillRoot, rootFaults, filledTo, filledSlots, rule6}
+use Rattle.oce_diag.specs.Putting.{total, Put}
+use Rattle.unify.specs.Unify.{fillRoot, rootFaults, filledSlots, rule6}
 use Rattle.slots.specs.Columns.{slotCount, view, Room}
 use Rattle.links.specs.Links.{linkCount, Linked}
 

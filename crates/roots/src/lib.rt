@@ -63,7 +63,8 @@ pub fn roots<'a>(
     counted: Counted,
 ) -> Counted
     requires { ⌜ Stage (now image) layout (now texts) (now head) (now next) s (now ks) (now ms) (now ns) (now members) × Read (modelOf (now image)) s (now ks) (now ms) (now ns) × (total counted ≤ 1000000) ⌝ }
-    ensures { λ c. ⌜ Unified (modelOf (now (image .entry))) s (now (ks .entry)) (now (ms .exit)) (now (ns .exit)) (now (report .entry)) counted (now (report .exit)) c ⌝ }
+    ensures { λ c. ⌜ Unified (modelOf (now (image .entry))) s (now (ks .entry)) (now (ms .exit)) (now (ns .exit)) (now (report .entry)) counted (now (report .exit)) c
+        × Stage (now (image .entry)) layout (now (texts .entry)) (now (head .entry)) (now (next .entry)) s (now (ks .entry)) (now (ms .exit)) (now (ns .exit)) (now (members .exit)) × (total c ≤ 2000000) ⌝ }
 {
     let n = layout.connectors.count;
     let mut c = counted;

@@ -1,19 +1,18 @@
 -- Laws of one detail over one cluster.
 -- Assumes nothing.
-use Prim.Native.Nat.{ℕ, zero, suc, _+_, _*_, _-_, _≤_, _<_}
+use Prim.Native.Nat.{ℕ, _+_, _≤_, _<_}
 use native.Mathlib.Numerals.{add-one}
 use native.Mathlib.Omega.{arith}
-use mathlib.Core.Path.{_≡_, refl, sym, ap, _∙_}
+use mathlib.Core.Path.{_≡_, refl, sym, _∙_}
 use mathlib.Core.Bool.{Bool, true, false, cond, not, _&&_}
 use mathlib.Core.List.{List, [], _∷_}
 use mathlib.Core.Option.{Option, none, some}
 use lib.ListN.{length, getD, set, drop, drop-of-length-le}
 use lib.Seq.{drop-cons}
-use lib.Dec.{eqb, ltb}
-use borrow.Author.Tests.{eq-eqb, ne-eqb, lt-ltb, le-ltb}
+use lib.Dec.{eqb}
+use borrow.Author.Tests.{lt-ltb, le-ltb}
 use Rattle.base.specs.Lists.{all, same}
 use Rattle.oce_model.specs.Format.{minBit}
-use Rattle.oce_model.specs.Attributes.{marked}
 use Rattle.oce_model.specs.Model.{Model, text}
 use Rattle.accept.specs.declared.Layout.{Layout}
 use Rattle.unify.specs.Slots.{Slots, slot, bitOf, value, put, key, agree}
@@ -43,10 +42,6 @@ module _ (m : Model) (d u v : ℕ) {p : ℕ} (ep : p ≡ bitOf d) where
 
 pub inside-at : (s : ℕ) (js : List ℕ) (i : ℕ) {j : ℕ} → Inside s js → i < length js → j ≡ getD js i 0 → j < s
 inside-at s js i v h e = rw e (v .each i h)
-
--- one slot under two names
-pub put-at : {d v s : ℕ} {ks ms ns ms′ ns′ : List ℕ} {i j : ℕ} → j ≡ i → PutOne d v s ks j ms ns ms′ ns′ → PutOne d v s ks i ms ns ms′ ns′
-put-at e p = rw (← e) p
 
 rest : (js : List ℕ) (i : ℕ) → i < length js → drop i js ≡ getD js i 0 ∷ drop (i + 1) js
 rest js i h = rw add-one (drop-cons js i 0 h)

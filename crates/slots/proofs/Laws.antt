@@ -4,18 +4,18 @@ use mathlib.Core.Path.{_≡_, refl, sym, ap, _∙_}
 use mathlib.Core.Logic.{_≢_}
 use mathlib.Core.Bool.{Bool, true, false, cond, _&&_}
 use mathlib.Core.List.{List, [], _∷_, _++_}
-use mathlib.Core.Option.{Option, none, some}
+use mathlib.Core.Option.{none}
 use Prim.Native.Nat.{ℕ, _+_, _*_, _^_, _<_}
 use native.Mathlib.Omega.{arith}
 use lib.Dec.{eqb}
-use lib.ListN.{length, getD, set, length-set}
-use lib.Seq.{getD-set-same, getD-set-other, set-getD, ext-getD}
+use lib.ListN.{length, getD, set}
+use lib.Seq.{getD-set-same, getD-set-other, set-getD}
 use borrow.Author.Tests.{eq-eqb, ne-eqb}
-use Rattle.base.specs.Lists.{each, tab}
+use Rattle.base.specs.Lists.{tab}
 use Rattle.base.proofs.Lists.{length-tab, getD-tab, set-tab, each-same, each-next}
 use Rattle.numbers.specs.Bytes.{bit}
 use Rattle.oce_model.specs.Attributes.{Attrs, noAttrs, num, marked, declaredAt, declareAt}
-use Rattle.unify.specs.Slots.{Slots, slot, kindOf, bitOf, value, put}
+use Rattle.unify.specs.Slots.{slot, kindOf, bitOf, value, put}
 use Rattle.slots.specs.Columns.{width, used, attrsOf, view, declares, Room, Declared, PutOne}
 
 -- ---- reading
@@ -128,14 +128,7 @@ module _ {s : ℕ} {ks ms ns : List ℕ} {j d v k x : ℕ} (h : j < s) (ek : k �
       let q : put d v (slot (view s ks ms ns) j) ≡ declareAt a p v = rw (slot-view s ks ms ns j h, ep) (put-unset d v a (eq-eqb (getD ks j 0) (kindOf d) (sym ex ∙ f ∙ ek)) e′) in
       record { slots = rw (q, ew) (written s ks ms ns j p v h (omega arith) room) }
 
--- ---- loading: columns hold given slots where they hold each of them; one slot more is one more at the end
-
-pub view-is : (σ : Slots) (s : ℕ) (ks ms ns : List ℕ) → length σ ≡ s → ((j : ℕ) → j < s → attrsOf ks ms ns j ≡ slot σ j) → view s ks ms ns ≡ σ
-unfolding slot
-view-is σ s ks ms ns e h =
-    ext-getD noAttrs (view s ks ms ns) σ (length-view s ks ms ns ∙ sym e)
-    (λ j l. let l′ : j < s = omega (arith, length-view s ks ms ns) in slot-view s ks ms ns j l′ ∙ h j l′)
-
+-- one slot more is one more at the end
 pub view-next : (i : ℕ) (ks ms ns : List ℕ) → view (i + 1) ks ms ns ≡ view i ks ms ns ++ (attrsOf ks ms ns i ∷ [])
 unfolding view
 view-next i ks ms ns = each-next i (λ j. attrsOf ks ms ns j ∷ [])

@@ -4,7 +4,7 @@ use Prim.Native.Nat.{ℕ, _+_, _*_, _-_, _≤_, _<_}
 use native.Mathlib.Numerals.{add-one}
 use native.Mathlib.Omega.{arith}
 use mathlib.Core.Path.{_≡_, refl, sym, ap, _∙_}
-use mathlib.Core.List.{List, [], _∷_, _++_}
+use mathlib.Core.List.{List, [], _∷_}
 use lib.ListN.{length, getD, set, take}
 use lib.Seq.{getD-set-same, getD-set-other, take-suc, take-all}
 use Rattle.base.specs.Lists.{each, tab}
@@ -13,7 +13,7 @@ use Rattle.base.proofs.Lists.{each-same, tab-getD}
 use Rattle.base.proofs.Buffers.{patch-inside, patch-before}
 use Rattle.numbers.specs.Bytes.{byte, le16, le64}
 use Rattle.oce_model.specs.Attributes.{Attrs, noAttrs, attrsAt}
-use Rattle.oce_model.specs.Model.{Model, modelOf, connector, boundaryOutput, connectorCount}
+use Rattle.oce_model.specs.Model.{Model, modelOf, connector, boundaryOutput}
 use Rattle.accept.specs.Layout.{Laid}
 use Rattle.accept.specs.declared.Layout.{Layout}
 use Rattle.unify.specs.Slots.{slotsOf, slot}

@@ -3,7 +3,7 @@
 use borrow.Author.Needs.{needs}
 use Prim.Native.Nat.{_-_}
 use Rattle.roots.proofs.Laws.{Roots}
-use Rattle.roots.proofs.Laws.{roots-start, roots-stage, roots-inside, roots-few, roots-fit, roots-turn, roots-done, roots-report, roots-marks, roots-nums, roots-long}
+use Rattle.roots.proofs.Laws.{roots-start, roots-stage, roots-inside, roots-fit, roots-turn, roots-done, roots-total, roots-report, roots-marks, roots-nums, roots-long}
 use Rattle.roots.proofs.roots.Statement.{statement}
 use Rattle.roots.proofs.roots.Tie as tie
 
@@ -13,7 +13,7 @@ Inv-loop image layout texts head next s ks ms₀ ns₀ members₀ report₀ n c�
 abbrev μ-loop : tie.MeasureT-loop
 μ-loop image layout texts head next s ks ms₀ ns₀ members₀ report₀ n c₀ r₀ ms ns members report c r = n - r
 
-ruleset mine = (roots-start, roots-stage, roots-inside, roots-few, roots-fit, roots-turn, roots-done, roots-report, roots-marks, roots-nums, roots-long, needs)
+ruleset mine = (roots-start, roots-stage, roots-inside, roots-fit, roots-turn, roots-done, roots-report, roots-marks, roots-nums, roots-long, needs)
 
 pub roots-spec : {M : Type 1} → statement M
 roots-spec =
@@ -22,7 +22,7 @@ roots-spec =
     Inv-loop
     μ-loop
     (λ c. search mine)
-    (λ c κs. (search roots-stage, search roots-inside, search roots-few))
+    (λ c κs. (search roots-stage, search roots-inside, search roots-total))
     (λ c. search mine)
     (λ c. search mine)
     (λ c. search mine)
@@ -30,4 +30,4 @@ roots-spec =
     (λ c. search mine)
     (λ c. search mine)
     (λ c. search mine)
-    (λ c. search mine))
+    (λ c. (search mine, search roots-stage, search (roots-total, needs))))

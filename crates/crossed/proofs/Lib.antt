@@ -1,0 +1,2 @@
+-- Laws of rule 5 record by record.
+pub mod Laws

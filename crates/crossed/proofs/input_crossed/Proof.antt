@@ -1,0 +1,18 @@
+-- `crossed::input_crossed` meets its contract.
+-- Assumes nothing.
+use borrow.Author.Needs.{needs}
+use Rattle.crossed.proofs.Laws.{input-put, number-small, inputs-room}
+use Rattle.crossed.proofs.input_crossed.Statement.{statement}
+use Rattle.crossed.proofs.input_crossed.Tie as tie
+
+pub input-crossed-spec : {M : Type 1} → statement M
+input-crossed-spec =
+    tie.close
+    (tie.spec
+    (λ c κs. search needs)
+    (λ c. search needs)
+    (λ c κs. search needs)
+    (λ c. search (input-put, number-small, inputs-room, needs))
+    (λ c κs. search needs)
+    (λ c. search needs)
+    (λ c. search (input-put, number-small, inputs-room, needs)))

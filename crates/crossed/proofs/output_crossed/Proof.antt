@@ -1,0 +1,18 @@
+-- `crossed::output_crossed` meets its contract.
+-- Assumes nothing.
+use borrow.Author.Needs.{needs}
+use Rattle.crossed.proofs.Laws.{output-put, number-small, outputs-room}
+use Rattle.crossed.proofs.output_crossed.Statement.{statement}
+use Rattle.crossed.proofs.output_crossed.Tie as tie
+
+pub output-crossed-spec : {M : Type 1} → statement M
+output-crossed-spec =
+    tie.close
+    (tie.spec
+    (λ c κs. search needs)
+    (λ c. search needs)
+    (λ c κs. search needs)
+    (λ c. search (output-put, number-small, outputs-room, needs))
+    (λ c κs. search needs)
+    (λ c. search needs)
+    (λ c. search (output-put, number-small, outputs-room, needs)))

@@ -1,0 +1,2 @@
+-- Rule 5 record by record.
+pub mod Details

@@ -1,0 +1,167 @@
+// Rule 5, `check_crossed_bounds`: each record's own range, and then the combined domains.
+use accept::Layout;
+use bounds::is_crossed;
+use combined::combined_domains;
+use oce_diag::Counted;
+use oce_diag::DiagCode;
+use oce_diag::Subject;
+use oce_diag::error;
+use oce_diag::put_if;
+use oce_diag::subject_of;
+use oce_model::ConnectorId;
+use ranges::range_of;
+use records::boundary_input_attrs;
+use records::boundary_input_iri;
+use records::boundary_output;
+use records::boundary_output_attrs;
+use records::connector;
+use records::connector_attrs;
+ghost use mathlib.Core.Path.{_≡_};
+ghost use Prim.Native.Nat.{_+_, _<_, _≤_};
+ghost use Rattle.base.specs.Lists.{each};
+ghost use Rattle.oce_model.specs.Format.{longestImage, connectorAttrs, textTag};
+ghost use Rattle.oce_model.specs.Attributes.{attrsAt};
+ghost use Rattle.oce_model.specs.Model.{modelOf};
+ghost use Rattle.oce_diag.specs.Putting.{total, Put};
+ghost use Rattle.accept.specs.Layout.{Laid, Tabled};
+ghost use Rattle.degrees.specs.Columns.{Listed};
+ghost use Rattle.crossed_bounds.specs.CrossedBounds.{crossedFaults, rule5};
+ghost use Rattle.crossed.specs.Details.{connectorCrossed, inputCrossed, outputCrossed, mostCrossed};
+
+// Reports the attributes at an offset, where their range is crossed: the Rust's `report`.
+fn put_crossed(
+    image: &[u8],
+    layout: Layout,
+    at: usize,
+    detail: u8,
+    subject: Subject,
+    i: u32,
+    report: &mut [u8],
+    counted: Counted,
+) -> Counted
+    requires { ⌜ Laid (now image) layout × (at ≤ longestImage + connectorAttrs) × (total counted ≤ 2000000) ⌝ }
+    ensures { λ r. ⌜ Put (now (report .entry)) counted (crossedFaults (modelOf (now (image .entry))) detail subject i (attrsAt (now (image .entry)) at)) (now (report .exit)) r × (total r ≤ total counted + 1) ⌝ }
+{
+    let d = error(DiagCode::CrossedBounds, 5, detail, subject, i);
+    put_if(report, counted, is_crossed(range_of(image, layout, at)), d)
+}
+
+// ---- detail 1
+
+pub fn connector_crossed(
+    image: &[u8],
+    layout: Layout,
+    i: ConnectorId,
+    report: &mut [u8],
+    counted: Counted,
+) -> Counted
+    requires { ⌜ Laid (now image) layout × (i .0 < layout .connectors .count) × (total counted ≤ 2000000) ⌝ }
+    ensures { λ r. ⌜ Put (now (report .entry)) counted (connectorCrossed (modelOf (now (image .entry))) (i .0)) (now (report .exit)) r × (total r ≤ total counted + 1) ⌝ }
+{
+    let c = connector(image, layout, i);
+    let id = c.id;
+    let subject = subject_of(c.iri, id.0);
+    let at = connector_attrs(image, layout, i);
+    put_crossed(image, layout, at, 1, subject, i.0, report, counted)
+}
+
+fn connectors_crossed(image: &[u8], layout: Layout, report: &mut [u8], counted: Counted) -> Counted
+    requires { ⌜ Laid (now image) layout × (total counted ≤ 1000000) ⌝ }
+    ensures { λ r. ⌜ Put (now (report .entry)) counted (each (layout .connectors .count) (connectorCrossed (modelOf (now (image .entry))))) (now (report .exit)) r × (total r ≤ total counted + layout .connectors .count) ⌝ }
+{
+    let connectors = layout.connectors;
+    let n = connectors.count;
+    let mut k = counted;
+    let mut i = 0;
+    while i < n {
+        k = connector_crossed(image, layout, ConnectorId(i as u32), report, k);
+        i += 1;
+    }
+    k
+}
+
+// ---- detail 2
+
+pub fn input_crossed(
+    image: &[u8],
+    layout: Layout,
+    i: usize,
+    report: &mut [u8],
+    counted: Counted,
+) -> Counted
+    requires { ⌜ Laid (now image) layout × (i < layout .inputs .count) × (total counted ≤ 2000000) ⌝ }
+    ensures { λ r. ⌜ Put (now (report .entry)) counted (inputCrossed (modelOf (now (image .entry))) i) (now (report .exit)) r × (total r ≤ total counted + 1) ⌝ }
+{
+    let iri = boundary_input_iri(image, layout, i);
+    let subject = Subject::Text(iri as u32);
+    let at = boundary_input_attrs(image, layout, i);
+    put_crossed(image, layout, at, 2, subject, i as u32, report, counted)
+}
+
+fn inputs_crossed(image: &[u8], layout: Layout, report: &mut [u8], counted: Counted) -> Counted
+    requires { ⌜ Laid (now image) layout × (total counted ≤ 1000000) ⌝ }
+    ensures { λ r. ⌜ Put (now (report .entry)) counted (each (layout .inputs .count) (inputCrossed (modelOf (now (image .entry))))) (now (report .exit)) r × (total r ≤ total counted + layout .inputs .count) ⌝ }
+{
+    let inputs = layout.inputs;
+    let n = inputs.count;
+    let mut k = counted;
+    let mut i = 0;
+    while i < n {
+        k = input_crossed(image, layout, i, report, k);
+        i += 1;
+    }
+    k
+}
+
+// ---- detail 3
+
+pub fn output_crossed(
+    image: &[u8],
+    layout: Layout,
+    i: usize,
+    report: &mut [u8],
+    counted: Counted,
+) -> Counted
+    requires { ⌜ Laid (now image) layout × (i < layout .outputs .count) × (total counted ≤ 2000000) ⌝ }
+    ensures { λ r. ⌜ Put (now (report .entry)) counted (outputCrossed (modelOf (now (image .entry))) i) (now (report .exit)) r × (total r ≤ total counted + 1) ⌝ }
+{
+    let o = boundary_output(image, layout, i);
+    let subject = Subject::Text(o.iri as u32);
+    let at = boundary_output_attrs(image, layout, i);
+    put_crossed(image, layout, at, 3, subject, i as u32, report, counted)
+}
+
+fn outputs_crossed(image: &[u8], layout: Layout, report: &mut [u8], counted: Counted) -> Counted
+    requires { ⌜ Laid (now image) layout × (total counted ≤ 1000000) ⌝ }
+    ensures { λ r. ⌜ Put (now (report .entry)) counted (each (layout .outputs .count) (outputCrossed (modelOf (now (image .entry))))) (now (report .exit)) r × (total r ≤ total counted + layout .outputs .count) ⌝ }
+{
+    let outputs = layout.outputs;
+    let n = outputs.count;
+    let mut k = counted;
+    let mut i = 0;
+    while i < n {
+        k = output_crossed(image, layout, i, report, k);
+        i += 1;
+    }
+    k
+}
+
+// ---- the whole rule
+
+// texts and externals are the columns that `accept` and `list_externals` fill.
+pub fn crossed_bounds<'a>(
+    image: &'a [u8],
+    layout: Layout,
+    texts: &'a [usize],
+    externals: &'a [u8],
+    report: &mut [u8],
+    counted: Counted,
+) -> Counted
+    requires { ⌜ Laid (now image) layout × Tabled textTag (now image) (now texts) × Listed (modelOf (now image)) (now externals) × (total counted ≤ 900000) ⌝ }
+    ensures { λ r. ⌜ Put (now (report .entry)) counted (rule5 (modelOf (now (image .entry)))) (now (report .exit)) r × (total r ≤ total counted + mostCrossed) ⌝ }
+{
+    let a = connectors_crossed(image, layout, report, counted);
+    let b = inputs_crossed(image, layout, report, a);
+    let c = outputs_crossed(image, layout, report, b);
+    combined_domains(image, layout, texts, externals, report, c)
+}
