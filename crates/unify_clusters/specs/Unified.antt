@@ -1,0 +1,31 @@
+-- All of rule 6.
+-- Assumes nothing.
+use Prim.Native.Nat.{ℕ, _+_, _*_, _≤_}
+use mathlib.Core.Path.{_≡_}
+use mathlib.Core.Bool.{cond}
+use mathlib.Core.List.{List, _++_}
+use lib.Dec.{eqb}
+use Rattle.oce_model.specs.Format.{mostConnections, mostBoundaryOutputs}
+use Rattle.oce_model.specs.Model.{Model, connectorCount}
+use Rattle.oce_diag.specs.Diagnostics.{errors}
+use Rattle.oce_diag.specs.declared.Diagnostic.{Diagnostic}
+use Rattle.oce_diag.specs.declared.Counted.{Counted}
+use Rattle.oce_diag.specs.Putting.{total, Put}
+use Rattle.unify.specs.Unify.{filledSlots, rule6, propagated}
+use Rattle.slots.specs.Columns.{slotCount, view, Room}
+
+-- the most links that an accepted image has
+abbrev pub mostLinks : ℕ
+mostLinks = mostConnections + mostBoundaryOutputs
+
+-- what rule 6 adds to a list that holds e errors: 'If after all roots the list holds no error, every root is tested in turn: 8'
+unfoldable pub wholeRule6 : Model → ℕ → List Diagnostic
+wholeRule6 m e = cond (eqb (e + errors (rule6 m)) 0) (rule6 m ++ propagated m) (rule6 m)
+
+-- the columns hold the slots after all roots, and a report b in which c were counted has become b′ with c′ by rule 6
+pub record Unified (m : Model) (s : ℕ) (ks ms ns b : List ℕ) (c : Counted) (b′ : List ℕ) (c′ : Counted) : Type 0 where
+  pub count : s ≡ slotCount m
+  pub slots : view s ks ms ns ≡ filledSlots m
+  pub room : Room s ks ms ns
+  pub put : Put b c (wholeRule6 m (c .errors)) b′ c′
+  pub few : total c′ ≤ total c + 8 * connectorCount m

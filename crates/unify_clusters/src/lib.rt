@@ -1,0 +1,137 @@
+// Rule 6, the Rust's `unify_clusters`: the slots of an image read, all roots in turn, and where the list
+// then holds no error, the test of every root's range.
+use accept::Layout;
+use links::link_all;
+use oce_diag::Counted;
+use propagated::propagated;
+use roots::roots;
+use slots_image::load_slots;
+ghost use Prim.Native.Nat.{_+_, _≤_};
+ghost use Rattle.oce_model.specs.Format.{textTag};
+ghost use Rattle.oce_model.specs.Model.{modelOf};
+ghost use Rattle.accept.specs.Layout.{Laid, Tabled};
+ghost use Rattle.oce_diag.specs.Putting.{total};
+ghost use Rattle.degrees.specs.Columns.{Degrees};
+ghost use Rattle.slots.specs.Columns.{slotCount, Room};
+ghost use Rattle.slots_image.specs.Loading.{Read};
+ghost use Rattle.roots.specs.Roots.{Stage};
+ghost use Rattle.unify_clusters.specs.Unified.{Unified};
+
+// The most records of each kind that an accepted image has.
+const MOST_CONNECTORS: usize = 1024;
+
+const MOST_CONNECTIONS: usize = 2048;
+
+const MOST_BOUNDARY_OUTPUTS: usize = 256;
+
+const MOST_LINKS: usize = MOST_CONNECTIONS + MOST_BOUNDARY_OUTPUTS;
+
+// A root and the slots that its links lead to.
+const MOST_MEMBERS: usize = MOST_LINKS + 1;
+
+// A number that is no link's.
+const NO_LINK: usize = MOST_LINKS;
+
+// All roots in turn, over links in lists.
+fn all_roots<'a>(
+    image: &'a [u8],
+    layout: Layout,
+    texts: &'a [usize],
+    head: &[usize],
+    next: &[usize],
+    s: usize,
+    ks: &[u8],
+    ms: &mut [u8],
+    ns: &mut [u64],
+    members: &mut [usize],
+    report: &mut [u8],
+    counted: Counted,
+) -> Counted
+    requires { ⌜ Stage (now image) layout (now texts) (now head) (now next) s (now ks) (now ms) (now ns) (now members) × Read (modelOf (now image)) s (now ks) (now ms) (now ns) × (total counted ≤ 1000000) ⌝ }
+    ensures { λ c. ⌜ Unified (modelOf (now (image .entry))) s (now (ks .entry)) (now (ms .exit)) (now (ns .exit)) (now (report .entry)) counted (now (report .exit)) c ⌝ }
+{
+    let c = roots(
+        image,
+        layout,
+        texts,
+        head,
+        next,
+        s,
+        ks,
+        ms,
+        ns,
+        members,
+        report,
+        counted,
+    );
+    if c.errors == 0 {
+        return propagated(image, layout, head, s, ks, ms, ns, report, c);
+    }
+    c
+}
+
+// The links in lists, and all roots in turn.
+fn linked_roots<'a>(
+    image: &'a [u8],
+    layout: Layout,
+    texts: &'a [usize],
+    degrees: &[u32],
+    s: usize,
+    ks: &[u8],
+    ms: &mut [u8],
+    ns: &mut [u64],
+    report: &mut [u8],
+    counted: Counted,
+) -> Counted
+    requires { ⌜ Laid (now image) layout × Tabled textTag (now image) (now texts) × Degrees (modelOf (now image)) (now degrees) × Read (modelOf (now image)) s (now ks) (now ms) (now ns) × (total counted ≤ 1000000) ⌝ }
+    ensures { λ c. ⌜ Unified (modelOf (now (image .entry))) s (now (ks .entry)) (now (ms .exit)) (now (ns .exit)) (now (report .entry)) counted (now (report .exit)) c ⌝ }
+{
+    let mut head = [NO_LINK; MOST_CONNECTORS];
+    let mut next = [0usize; MOST_LINKS];
+    let mut members = [0usize; MOST_MEMBERS];
+    link_all(image, layout, degrees, &mut head, &mut next);
+    all_roots(
+        image,
+        layout,
+        texts,
+        &head,
+        &next,
+        s,
+        ks,
+        ms,
+        ns,
+        &mut members,
+        report,
+        counted,
+    )
+}
+
+// All of rule 6.
+pub fn unify_clusters<'a>(
+    image: &'a [u8],
+    layout: Layout,
+    texts: &'a [usize],
+    degrees: &[u32],
+    ks: &mut [u8],
+    ms: &mut [u8],
+    ns: &mut [u64],
+    report: &mut [u8],
+    counted: Counted,
+) -> Counted
+    requires { ⌜ Laid (now image) layout × Tabled textTag (now image) (now texts) × Degrees (modelOf (now image)) (now degrees) × Room (slotCount (modelOf (now image))) (now ks) (now ms) (now ns) × (total counted ≤ 1000000) ⌝ }
+    ensures { λ c. ⌜ Unified (modelOf (now (image .entry))) (slotCount (modelOf (now (image .entry)))) (now (ks .exit)) (now (ms .exit)) (now (ns .exit)) (now (report .entry)) counted (now (report .exit)) c ⌝ }
+{
+    let s = load_slots(image, layout, ks, ms, ns);
+    linked_roots(
+        image,
+        layout,
+        texts,
+        degrees,
+        s,
+        ks,
+        ms,
+        ns,
+        report,
+        counted,
+    )
+}
