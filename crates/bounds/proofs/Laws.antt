@@ -1,6 +1,6 @@
 -- What the functions over ranges return, case by case. A signed local holds bits, so its number is `back z`.
 -- Assumes nothing.
-use mathlib.Core.Path.{_≡_, refl, sym, _∙_}
+use mathlib.Core.Path.{_≡_}
 use mathlib.Core.Bool.{Bool, true, false}
 use lib.IntN.{ℤ}
 use lib.Signed.{ltZ}

@@ -1,7 +1,7 @@
 -- That boundary inputs are added to existing groups only makes no difference to the report: a group that one opens has no external member.
 -- Assumes nothing.
 use mathlib.Core.Path.{_≡_, refl, ap, _∙_}
-use mathlib.Core.Bool.{Bool, true, false, cond, _||_}
+use mathlib.Core.Bool.{Bool, false, cond}
 use mathlib.Core.List.{List, [], _∷_, _++_}
 use Prim.Native.Nat.{ℕ}
 use Rattle.oce_model.specs.Texts.{order, isEqual}

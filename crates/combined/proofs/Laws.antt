@@ -3,7 +3,7 @@
 use Prim.Native.Nat.{ℕ, zero, suc, _+_, _-_, _≤_, _<_}
 use native.Mathlib.Nat.{min-le-left}
 use native.Mathlib.Omega.{arith}
-use mathlib.Core.Path.{_≡_, refl, sym, ap, fun-ext, _∙_}
+use mathlib.Core.Path.{_≡_, sym, ap, fun-ext, _∙_}
 use mathlib.Core.Logic.{_≢_}
 use mathlib.Core.Bool.{Bool, true, false, cond, _||_}
 use mathlib.Core.List.{List, [], _∷_, _++_}
@@ -13,7 +13,6 @@ use borrow.Author.Tests.{lt-ltb, le-ltb}
 use Rattle.base.specs.Lists.{each, tab, only, same, below}
 use Rattle.base.proofs.Lists.{length-tab, getD-tab}
 use Rattle.oce_model.specs.Format.{most, connectorTag, boundaryInputTag, boundaryOutputTag}
-use Rattle.oce_model.specs.Texts.{order, isEqual}
 use Rattle.oce_model.specs.Model.{Model, modelOf, text, connectorCount, boundaryInput, boundaryInputCount, noBoundaryInput}
 use Rattle.oce_diag.specs.Diagnostics.{error}
 use Rattle.oce_diag.specs.Putting.{total, Put}

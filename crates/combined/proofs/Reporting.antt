@@ -18,7 +18,7 @@ use Rattle.oce_diag.specs.declared.Counted.{Counted}
 use Rattle.oce_diag.proofs.Putting.{put-none, put-then, put-length}
 use Rattle.crossed_bounds.specs.Ranges.{combined, takeIn, takeInAll}
 use Rattle.crossed_bounds.specs.Groups.{Group, members, alone, joined}
-use Rattle.crossed_bounds.specs.CrossedBounds.{memberIri, memberExternal, memberKey, memberRanges, groupFaults, groupsFaults}
+use Rattle.crossed_bounds.specs.CrossedBounds.{memberExternal, memberKey, memberRanges, groupFaults, groupsFaults}
 use Rattle.crossed_bounds.specs.declared.Range.{Range}
 use Rattle.crossed_bounds.proofs.Combined.{combined-more}
 use Rattle.members.specs.Members.{memberRange}
@@ -174,9 +174,6 @@ module _ {m : Model} {n : ℕ} {xs b₀ : List ℕ} {c₀ : Counted} where
           }
 
 module _ {m : Model} {n : ℕ} {xs b₀ : List ℕ} {c₀ : Counted} {b : List ℕ} {p : Pass} {i : ℕ} (v : Passed m n xs b₀ c₀ b p i) where
-  pub passed-first : p .first < n
-  passed-first = v .first
-
   pub passed-length : length b ≡ length b₀
   passed-length = put-length (v .put)
 

@@ -30,8 +30,8 @@ ghost use Rattle.oce_diag.specs.Putting.{total, Put};
 ghost use Rattle.accept.specs.Layout.{Laid, Tabled};
 ghost use Rattle.degrees.specs.Columns.{Listed};
 ghost use Rattle.sorting.specs.Sort.{sorted};
-ghost use Rattle.crossed_bounds.specs.CrossedBounds.{memberIri, memberExternal, memberKey, groups, groupsFaults};
-ghost use Rattle.members.specs.Members.{memberCount, isMember, memberRange, joining};
+ghost use Rattle.crossed_bounds.specs.CrossedBounds.{memberIri, memberKey, groups, groupsFaults};
+ghost use Rattle.members.specs.Members.{memberCount, isMember, joining};
 ghost use Rattle.combined.specs.Runs.{runs};
 ghost use Rattle.combined.specs.Pass.{opened, grown, counts, passFaults, sameKey, AllMembers, Below, Small, Stepped};
 

@@ -2,12 +2,12 @@
 -- Assumes nothing.
 use Prim.Native.Nat.{ℕ, _+_, _≤_, _<_}
 use native.Mathlib.Omega.{arith}
-use mathlib.Core.Path.{_≡_, refl, sym, ap, _∙_}
+use mathlib.Core.Path.{_≡_, ap, _∙_}
 use mathlib.Core.Bool.{Bool}
-use mathlib.Core.List.{List, _++_}
+use mathlib.Core.List.{List}
 use Rattle.base.specs.Lists.{each, only}
 use Rattle.oce_model.specs.Attributes.{Attrs}
-use Rattle.oce_model.specs.Model.{Model, modelOf, connector, boundaryInput, boundaryOutput, connectorCount, boundaryInputCount, boundaryOutputCount}
+use Rattle.oce_model.specs.Model.{Model, modelOf, connector, boundaryInput, boundaryOutput}
 use Rattle.oce_model.specs.declared.Connector.{Connector}
 use Rattle.oce_model.specs.declared.BoundaryOutput.{BoundaryOutput}
 use Rattle.oce_diag.specs.Diagnostics.{connectorSubject, subjectOf, error}

@@ -16,7 +16,6 @@ use records::boundary_output;
 use records::boundary_output_attrs;
 use records::connector;
 use records::connector_attrs;
-ghost use mathlib.Core.Path.{_≡_};
 ghost use Prim.Native.Nat.{_+_, _<_, _≤_};
 ghost use Rattle.base.specs.Lists.{each};
 ghost use Rattle.oce_model.specs.Format.{longestImage, connectorAttrs, textTag};

@@ -4,7 +4,7 @@ use Prim.Native.Nat.{ℕ, _+_, _≤_, _<_}
 use mathlib.Core.Path.{_≡_}
 use mathlib.Core.Bool.{Bool, true, cond}
 use mathlib.Core.List.{List, _++_}
-use lib.ListN.{length, take}
+use lib.ListN.{take}
 use Rattle.base.specs.Lists.{each, only}
 use Rattle.oce_model.specs.Model.{Model, connector, isConnector}
 use Rattle.accept.specs.declared.Layout.{Layout}

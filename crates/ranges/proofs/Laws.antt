@@ -1,7 +1,7 @@
 -- The range of attributes, read by value, is the one of the definition. A signed local holds bits, so its number is `back z`.
 -- Assumes nothing.
 use Prim.Native.Nat.{ℕ}
-use mathlib.Core.Path.{_≡_, refl, sym, ap, _∙_}
+use mathlib.Core.Path.{_≡_, refl, sym, _∙_}
 use mathlib.Core.Logic.{_≢_}
 use mathlib.Core.Bool.{Bool, true, false, cond, _&&_}
 use mathlib.Core.List.{List}
@@ -22,7 +22,7 @@ use Rattle.accept.specs.declared.Layout.{Layout}
 use Rattle.records.specs.Records.{realAttrs, intAttrs}
 use Rattle.crossed_bounds.specs.Ranges.{finiteEnd, endOf, realRange, integerRange, orDefault, rangeOf}
 use Rattle.crossed_bounds.specs.declared.End.{End}
-use Rattle.crossed_bounds.specs.declared.End.the-variants.{None, Value}
+use Rattle.crossed_bounds.specs.declared.End.the-variants.{Value}
 use Rattle.crossed_bounds.specs.declared.Bounds.the-variants.{Real, Integer}
 use Rattle.crossed_bounds.specs.declared.Range.{Range}
 use Rattle.crossed_bounds.specs.declared.Range.the-variants.{Absent, Within}

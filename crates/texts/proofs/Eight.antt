@@ -9,7 +9,7 @@ use lib.Dec.{eqb}
 use lib.ListN.{length, take, drop, take-append-drop}
 use lib.Seq.{drop-drop}
 use borrow.Author.Tests.{eqb-true, le-ltb}
-use Rattle.numbers.specs.Bytes.{byte, le, le64, leBytes}
+use Rattle.numbers.specs.Bytes.{byte, le64}
 use Rattle.numbers.proofs.Bytes.{bytes-le}
 use Rattle.oce_model.specs.Texts.{order}
 

@@ -2,7 +2,7 @@
 -- Assumes nothing.
 use Prim.Native.Nat.{ℕ, zero, suc, _+_, _<_, _≤_}
 use native.Mathlib.Omega.{arith}
-use mathlib.Core.Path.{_≡_, refl, sym, ap, _∙_}
+use mathlib.Core.Path.{_≡_, sym, ap, _∙_}
 use mathlib.Core.Logic.{_⊎_, inl, inr}
 use mathlib.Core.Bool.{Bool, true, false, cond}
 use mathlib.Core.List.{List, [], _∷_, List·Memᴰ, List·Memᴰ·not-nil, List·Memᴰ·cases-cons}
@@ -16,7 +16,7 @@ use Rattle.oce_model.specs.Image.{fieldAt, fieldEnd, fields, fieldsFrom, ofTag,
 use Rattle.oce_model.specs.declared.Field.{Field}
 use Rattle.oce_model.specs.Texts.{textOf}
 use Rattle.oce_model.specs.Model.{modelOf, text}
-use Rattle.oce_model.proofs.Accepted.{Accepted, accepted}
+use Rattle.oce_model.proofs.Accepted.{accepted}
 use Rattle.oce_model.proofs.Fields.{nth, nth-mem}
 use Rattle.oce_model.proofs.Places.{field-end}
 use Rattle.accept.specs.Layout.{Laid, Tabled, sectionOf, layoutOf, offsetsOf}

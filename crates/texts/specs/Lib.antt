@@ -1,1 +1,2 @@
+-- What a comparison of byte strings has passed over.
 pub mod Passed

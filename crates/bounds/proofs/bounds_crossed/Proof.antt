@@ -11,8 +11,8 @@ unfolding crossedBounds
 bounds-crossed-spec =
     tie.close
     (tie.spec
-    (λ c. search (bounds-real, bounds-integer, needs))
-    (λ c κs. search (bounds-real, bounds-integer, needs))
-    (λ c. search (bounds-real, bounds-integer, needs))
-    (λ c. search (bounds-real, bounds-integer, needs))
+    (λ c. search needs)
+    (λ c κs. search needs)
+    (λ c. search needs)
+    (λ c. search (bounds-real, needs))
     (λ c. search (bounds-real, bounds-integer, needs)))

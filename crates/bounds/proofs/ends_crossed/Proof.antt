@@ -11,10 +11,10 @@ unfolding crossedEnds
 ends-crossed-spec =
     tie.close
     (tie.spec
-    (λ c. search (ends-both, needs))
-    (λ c. search (ends-both, needs))
-    (λ c. search (ends-both, needs))
-    (λ c. search (ends-both, needs))
-    (λ c. search (ends-both, needs))
-    (λ c. search (ends-both, needs))
+    (λ c. search needs)
+    (λ c. search needs)
+    (λ c. search needs)
+    (λ c. search needs)
+    (λ c. search needs)
+    (λ c. search needs)
     (λ c. search (ends-both, needs)))

@@ -11,11 +11,11 @@ unfolding higher
 higher-end-spec =
     tie.close
     (tie.spec
+    (λ c. search needs)
+    (λ c. search needs)
+    (λ c. search needs)
+    (λ c. search needs)
     (λ c. search (higher-second, higher-first, higher-only, needs))
-    (λ c. search (higher-second, higher-first, higher-only, needs))
-    (λ c. search (higher-second, higher-first, higher-only, needs))
-    (λ c. search (higher-second, higher-first, higher-only, needs))
-    (λ c. search (higher-second, higher-first, higher-only, needs))
-    (λ c. search (higher-second, higher-first, higher-only, needs))
+    (λ c. search needs)
     (λ c. search (higher-second, higher-first, higher-only, needs))
     (λ c. search (higher-second, higher-first, higher-only, needs)))

@@ -11,5 +11,5 @@ unfolding higherInteger
 higher-integer-spec =
     tie.close
     (tie.spec
-    (λ c. search (higher-integer-second, higher-integer-first, needs))
-    (λ c. search (higher-integer-second, higher-integer-first, needs)))
+    (λ c. search (higher-integer-second, needs))
+    (λ c. search (higher-integer-first, needs)))

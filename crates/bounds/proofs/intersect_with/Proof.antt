@@ -9,8 +9,8 @@ pub intersect-with-spec : {M : Type 1} → statement M
 intersect-with-spec =
     tie.close
     (tie.spec
-    (λ c. search (with-within, needs))
-    (λ c. search (with-within, needs))
-    (λ c κs. search (with-within, needs))
-    (λ c. search (with-within, needs))
+    (λ c. search needs)
+    (λ c. search needs)
+    (λ c κs. search needs)
+    (λ c. search needs)
     (λ c. search (with-within, needs)))

@@ -11,8 +11,8 @@ unfolding crossed
 is-crossed-spec =
     tie.close
     (tie.spec
-    (λ c. search (crossed-within, needs))
-    (λ c. search (crossed-within, needs))
-    (λ c κs. search (crossed-within, needs))
-    (λ c. search (crossed-within, needs))
+    (λ c. search needs)
+    (λ c. search needs)
+    (λ c κs. search needs)
+    (λ c. search needs)
     (λ c. search (crossed-within, needs)))

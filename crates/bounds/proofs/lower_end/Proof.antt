@@ -11,11 +11,11 @@ unfolding lower
 lower-end-spec =
     tie.close
     (tie.spec
+    (λ c. search needs)
+    (λ c. search needs)
+    (λ c. search needs)
+    (λ c. search needs)
     (λ c. search (lower-second, lower-first, lower-only, needs))
-    (λ c. search (lower-second, lower-first, lower-only, needs))
-    (λ c. search (lower-second, lower-first, lower-only, needs))
-    (λ c. search (lower-second, lower-first, lower-only, needs))
-    (λ c. search (lower-second, lower-first, lower-only, needs))
-    (λ c. search (lower-second, lower-first, lower-only, needs))
+    (λ c. search needs)
     (λ c. search (lower-second, lower-first, lower-only, needs))
     (λ c. search (lower-second, lower-first, lower-only, needs)))

@@ -11,5 +11,5 @@ unfolding lowerInteger
 lower-integer-spec =
     tie.close
     (tie.spec
-    (λ c. search (lower-integer-second, lower-integer-first, needs))
-    (λ c. search (lower-integer-second, lower-integer-first, needs)))
+    (λ c. search (lower-integer-second, needs))
+    (λ c. search (lower-integer-first, needs)))

@@ -11,9 +11,9 @@ unfolding takeIn
 take-in-spec =
     tie.close
     (tie.spec
-    (λ c. search (take-in-within, needs))
-    (λ c. search (take-in-within, needs))
-    (λ c κs. search (take-in-within, needs))
-    (λ c κs. search (take-in-within, needs))
-    (λ c. search (take-in-within, needs))
+    (λ c. search needs)
+    (λ c. search needs)
+    (λ c κs. search needs)
+    (λ c κs. search needs)
+    (λ c. search needs)
     (λ c. search (take-in-within, needs)))

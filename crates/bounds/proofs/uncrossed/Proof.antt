@@ -11,9 +11,9 @@ unfolding uncrossed
 uncrossed-spec =
     tie.close
     (tie.spec
-    (λ c. search (uncrossed-absent, uncrossed-within, needs))
-    (λ c. search (uncrossed-absent, uncrossed-within, needs))
-    (λ c κs. search (uncrossed-absent, uncrossed-within, needs))
-    (λ c. search (uncrossed-absent, uncrossed-within, needs))
-    (λ c. search (uncrossed-absent, uncrossed-within, needs))
-    (λ c. search (uncrossed-absent, uncrossed-within, needs)))
+    (λ c. search needs)
+    (λ c. search needs)
+    (λ c κs. search needs)
+    (λ c. search (uncrossed-absent, needs))
+    (λ c. search needs)
+    (λ c. search (uncrossed-within, needs)))

@@ -9,7 +9,7 @@ use lib.ListN.{length}
 use Rattle.oce_model.specs.Model.{modelOf}
 use Rattle.members.specs.Members.{memberCount}
 use Rattle.combined.proofs.Laws.{first-member, member-at}
-use Rattle.combined.proofs.Reporting.{Passed, no-runs, passed-start, passed-turn, passed-end, passed-few, passed-small, passed-first, passed-length}
+use Rattle.combined.proofs.Reporting.{Passed, no-runs, passed-start, passed-turn, passed-end, passed-few, passed-small, passed-length}
 use Rattle.combined.proofs.report_groups.Statement.{statement}
 use Rattle.combined.proofs.report_groups.Tie as tie
 
@@ -53,10 +53,10 @@ report-groups-spec =
     (λ c. search (passed-start, needs))
     (λ c. search needs)
     (λ c. search needs)
-    (λ c κs. search (passed-small, passed-first, member-at, needs))
+    (λ c κs. search (passed-small, member-at, needs))
     add-i
     loop-less
     loop-again
-    (λ c κs. search (passed-small, passed-first, needs))
+    (λ c κs. search (passed-small, needs))
     same-length
     returns-2)

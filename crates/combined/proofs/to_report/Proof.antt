@@ -10,7 +10,7 @@ pub to-report-spec : {M : Type 1} → statement M
 to-report-spec =
     tie.close
     (tie.spec
-    (λ c. search (counts-inner, counts-few, counts-range, not-true, not-false, needs))
-    (λ c. search (counts-inner, counts-few, counts-range, not-true, not-false, needs))
+    (λ c. search (counts-inner, not-true, needs))
+    (λ c. search (counts-few, not-false, needs))
     (λ c κs. search needs)
-    (λ c. search (counts-inner, counts-few, counts-range, not-true, not-false, needs)))
+    (λ c. search (counts-range, not-false, needs)))

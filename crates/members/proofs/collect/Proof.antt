@@ -19,10 +19,10 @@ collect-spec =
     (tie.spec
     Inv-loop
     μ-loop
-    (λ c. search (collects-start, collects-turn, collects-all, needs))
-    (λ c κs. search (collects-start, collects-turn, collects-all, needs))
-    (λ c. search (collects-start, collects-turn, collects-all, needs))
-    (λ c. search (collects-start, collects-turn, collects-all, needs))
-    (λ c. search (collects-start, collects-turn, collects-all, needs))
-    (λ c. search (collects-start, collects-turn, collects-all, needs))
-    (λ c. search (collects-start, collects-turn, collects-all, needs)))
+    (λ c. search (collects-start, needs))
+    (λ c κs. search needs)
+    (λ c. search needs)
+    (λ c. search needs)
+    (λ c. search (collects-turn, needs))
+    (λ c. search needs)
+    (λ c. search (collects-all, needs)))

@@ -14,5 +14,5 @@ collect-one-spec =
     (λ c. search needs)
     (λ c. search needs)
     (λ c. search needs)
-    (λ c. search (collect-yes, collect-no, needs))
-    (λ c. search (collect-yes, collect-no, needs)))
+    (λ c. search (collect-yes, needs))
+    (λ c. search (collect-no, needs)))

@@ -21,13 +21,13 @@ list-iris-spec =
     (tie.spec
     Inv-loop
     μ-loop
-    (λ c. search (fills-start, fills-turn, fills-all, needs))
-    (λ c κs. search (fills-start, fills-turn, fills-all, needs))
-    (λ c. search (fills-start, fills-turn, fills-all, needs))
-    (λ c. search (fills-start, fills-turn, fills-all, needs))
-    (λ c. search (fills-start, fills-turn, fills-all, needs))
-    (λ c. search (fills-start, fills-turn, fills-all, needs))
-    (λ c. search (fills-start, fills-turn, fills-all, needs))
-    (λ c. search (fills-start, fills-turn, fills-all, needs))
-    (λ c. search (fills-start, fills-turn, fills-all, needs))
-    (λ c. search (fills-start, fills-turn, fills-all, needs)))
+    (λ c. search (fills-start, needs))
+    (λ c κs. search needs)
+    (λ c. search needs)
+    (λ c. search needs)
+    (λ c. search needs)
+    (λ c. search needs)
+    (λ c. search needs)
+    (λ c. search (fills-turn, needs))
+    (λ c. search needs)
+    (λ c. search (fills-all, needs)))

@@ -9,8 +9,8 @@ pub member-attrs-spec : {M : Type 1} → statement M
 member-attrs-spec =
     tie.close
     (tie.spec
-    (λ c. search (connector-small, attrs-connector, attrs-input, needs))
+    (λ c. search (connector-small, needs))
     (λ c κs. search needs)
-    (λ c. search (connector-small, attrs-connector, attrs-input, needs))
+    (λ c. search (attrs-connector, needs))
     (λ c κs. search needs)
-    (λ c. search (connector-small, attrs-connector, attrs-input, needs)))
+    (λ c. search (attrs-input, needs)))

@@ -9,9 +9,9 @@ pub member-external-spec : {M : Type 1} → statement M
 member-external-spec =
     tie.close
     (tie.spec
-    (λ c. search (connector-small, external-input, external-connector, needs))
-    (λ c. search (connector-small, external-input, external-connector, needs))
+    (λ c. search (external-input, needs))
+    (λ c. search (connector-small, needs))
     (λ c κs. search needs)
     (λ c. search needs)
     (λ c κs. search needs)
-    (λ c. search (connector-small, external-input, external-connector, needs)))
+    (λ c. search (external-connector, needs)))

@@ -9,8 +9,8 @@ pub member-iri-spec : {M : Type 1} → statement M
 member-iri-spec =
     tie.close
     (tie.spec
-    (λ c. search (connector-small, iri-connector, iri-input, needs))
+    (λ c. search (connector-small, needs))
     (λ c κs. search needs)
-    (λ c. search (connector-small, iri-connector, iri-input, needs))
+    (λ c. search (iri-connector, needs))
     (λ c κs. search needs)
-    (λ c. search (connector-small, iri-connector, iri-input, needs)))
+    (λ c. search (iri-input, needs)))

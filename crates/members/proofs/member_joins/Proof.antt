@@ -9,8 +9,8 @@ pub member-joins-spec : {M : Type 1} → statement M
 member-joins-spec =
     tie.close
     (tie.spec
-    (λ c. search (connector-small, joins-input, joins-out, joins-in, needs))
-    (λ c. search (connector-small, joins-input, joins-out, joins-in, needs))
+    (λ c. search (joins-input, needs))
+    (λ c. search (connector-small, needs))
     (λ c κs. search needs)
-    (λ c. search (connector-small, joins-input, joins-out, joins-in, needs))
-    (λ c. search (connector-small, joins-input, joins-out, joins-in, needs)))
+    (λ c. search (joins-out, needs))
+    (λ c. search (joins-in, needs)))

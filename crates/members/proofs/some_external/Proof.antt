@@ -19,10 +19,10 @@ some-external-spec =
     (tie.spec
     Inv-loop
     μ-loop
-    (λ c. search (looks-start, looks-turn, looks-all, looks-found, needs))
-    (λ c κs. search (looks-start, looks-turn, looks-all, looks-found, needs))
-    (λ c. search (looks-start, looks-turn, looks-all, looks-found, needs))
-    (λ c. search (looks-start, looks-turn, looks-all, looks-found, needs))
-    (λ c. search (looks-start, looks-turn, looks-all, looks-found, needs))
-    (λ c. search (looks-start, looks-turn, looks-all, looks-found, needs))
-    (λ c. search (looks-start, looks-turn, looks-all, looks-found, needs)))
+    (λ c. search (looks-start, needs))
+    (λ c κs. search needs)
+    (λ c. search (looks-found, needs))
+    (λ c. search needs)
+    (λ c. search needs)
+    (λ c. search (looks-turn, needs))
+    (λ c. search (looks-all, needs)))

@@ -9,5 +9,5 @@ pub end-or-spec : {M : Type 1} → statement M
 end-or-spec =
     tie.close
     (tie.spec
-    (λ c. search (end-given, end-default, needs))
-    (λ c. search (end-given, end-default, needs)))
+    (λ c. search (end-given, needs))
+    (λ c. search (end-default, needs)))

@@ -1,0 +1,22 @@
+-- `wiring::output_faults` meets its contract: the source is a connector or not.
+-- Assumes nothing.
+use borrow.Author.Needs.{needs}
+use Rattle.wiring.proofs.Laws.{output-inside, output-outside, output-number}
+use Rattle.wiring.proofs.output_faults.Statement.{statement}
+use Rattle.wiring.proofs.output_faults.Tie as tie
+
+pub output-faults-spec : {M : Type 1} → statement M
+output-faults-spec =
+    tie.close
+    (tie.spec
+    (λ c κs. search needs)
+    (λ c. search needs)
+    (λ c. search needs)
+    (λ c κs. search needs)
+    (λ c. search needs)
+    (λ c. search (output-inside, needs))
+    (λ c. search (output-number, needs))
+    (λ c κs. search needs)
+    (λ c κs. search needs)
+    (λ c. search needs)
+    (λ c. search (output-outside, needs)))
