@@ -1,0 +1,20 @@
+-- `rules::run_over` meets its contract: rules 1 to 5, then rule 6.
+-- Assumes nothing.
+use borrow.Author.Needs.{needs}
+use Rattle.rules.proofs.Laws.{ran}
+use Rattle.rules.proofs.run_over.Statement.{statement}
+use Rattle.rules.proofs.run_over.Tie as tie
+
+pub run-over-spec : {M : Type 1} → statement M
+run-over-spec =
+    tie.close
+    (tie.spec
+    (λ c κs. search needs)
+    (λ c κs. search needs)
+    (λ c. search needs)
+    (λ c. search needs)
+    (λ c. search needs)
+    (λ c. search needs)
+    (λ c.
+    let p = c .before .before .before .before .before .before .before .before .before .before .before .before .before .before .before .first-five .ensures in
+    ran (c .before .before .before .before .before .before .before .before .before .before .before .before .before .before .before .before .before .before .before .before .before .before .before .before .before .before .pre .0 .laid) (p .0) (p .1) (c .before .before .before .before .before .before .before .before .unify-clusters .ensures)))

@@ -1,0 +1,43 @@
+-- What a run over all rules gives.
+-- Assumes nothing.
+use Prim.Native.Nat.{ℕ, _+_, _*_, _≤_}
+use mathlib.Core.Path.{_≡_}
+use mathlib.Core.List.{List, _++_}
+use Rattle.oce_model.specs.Format.{textTag, blockTag}
+use Rattle.oce_model.specs.Model.{Model, modelOf}
+use Rattle.accept.specs.Layout.{Laid, Tabled}
+use Rattle.accept.specs.declared.Layout.{Layout}
+use Rattle.oce_diag.specs.declared.Diagnostic.{Diagnostic}
+use Rattle.oce_diag.specs.declared.Counted.{Counted}
+use Rattle.oce_diag.specs.Putting.{total, Put}
+use Rattle.structural.specs.Structural.{rule1, rule2, rule3, rule4}
+use Rattle.crossed_bounds.specs.CrossedBounds.{rule5}
+use Rattle.unify.specs.Unify.{filledSlots}
+use Rattle.slots.specs.Columns.{slotCount, view, Room}
+use Rattle.outcome.specs.Report.{report}
+
+-- an accepted image with its layout and tables, and columns with room for its slots
+pub record Ready (image : List ℕ) (layout : Layout) (texts blocks ks ms ns : List ℕ) : Type 0 where
+  pub laid : Laid image layout
+  pub text-table : Tabled textTag image texts
+  pub block-table : Tabled blockTag image blocks
+  pub room : Room (slotCount (modelOf image)) ks ms ns
+
+-- nothing counted
+abbrev pub none : Counted
+none = record { errors = 0; warnings = 0 }
+
+-- rules 1 to 5, as they are run
+unfoldable pub firstFive : Model → List Diagnostic
+firstFive m = (rule1 m ++ rule2 m) ++ (rule3 m ++ rule4 m) ++ rule5 m
+
+-- a bound that keeps sums small: no accepted image gives as many diagnostics
+abbrev pub mostDiagnostics : ℕ
+mostDiagnostics = 1000000
+
+-- the columns hold the slots after all roots, and a report b has become b′ by all diagnostics of a model, c of them
+pub record Ran (m : Model) (ks ms ns b b′ : List ℕ) (c : Counted) : Type 0 where
+  pub slots : view (slotCount m) ks ms ns ≡ filledSlots m
+  pub room : Room (slotCount m) ks ms ns
+  pub put : Put b none (report m) b′ c
+  pub few : total c ≤ mostDiagnostics

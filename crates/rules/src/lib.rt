@@ -1,0 +1,141 @@
+// All rules in their order, over one report.
+use accept::Layout;
+use arena_ids::check_arena_ids;
+use assignment::check_single_assignment;
+use crossed::crossed_bounds;
+use degrees::LISTED_IDS;
+use degrees::in_degrees;
+use degrees::list_externals;
+use oce_diag::Counted;
+use unify_clusters::unify_clusters;
+use wiring::check_boundary_outputs;
+use wiring::check_connections;
+ghost use mathlib.Core.List.{_++_};
+ghost use Prim.Native.Nat.{_+_, _*_, _≤_};
+ghost use Rattle.oce_model.specs.Format.{textTag, blockTag};
+ghost use Rattle.oce_model.specs.Model.{modelOf};
+ghost use Rattle.oce_diag.specs.Putting.{total, Put};
+ghost use Rattle.accept.specs.Layout.{Laid, Tabled};
+ghost use Rattle.structural.specs.Structural.{rule1, rule2, rule3, rule4};
+ghost use Rattle.degrees.specs.Columns.{Degrees, Listed};
+ghost use Rattle.slots.specs.Columns.{slotCount, Room};
+ghost use Rattle.rules.specs.Ran.{firstFive, Ready, Ran};
+
+// Rules 1 and 2.
+fn ids_and_outputs(
+    image: &[u8],
+    layout: Layout,
+    blocks: &[usize],
+    report: &mut [u8],
+    counted: Counted,
+) -> Counted
+    requires { ⌜ Laid (now image) layout × Tabled blockTag (now image) (now blocks) × (total counted ≤ 0) ⌝ }
+    ensures { λ r. ⌜ Put (now (report .entry)) counted (rule1 (modelOf (now (image .entry))) ++ rule2 (modelOf (now (image .entry)))) (now (report .exit)) r × (total r ≤ 200000) ⌝ }
+{
+    let c = check_arena_ids(image, layout, blocks, report, counted);
+    check_boundary_outputs(image, layout, report, c)
+}
+
+// Rules 3 and 4.
+fn assignments_and_connections(
+    image: &[u8],
+    layout: Layout,
+    degrees: &[u32],
+    externals: &[u8],
+    report: &mut [u8],
+    counted: Counted,
+) -> Counted
+    requires { ⌜ Laid (now image) layout × Degrees (modelOf (now image)) (now degrees) × Listed (modelOf (now image)) (now externals) × (total counted ≤ 200000) ⌝ }
+    ensures { λ r. ⌜ Put (now (report .entry)) counted (rule3 (modelOf (now (image .entry))) ++ rule4 (modelOf (now (image .entry)))) (now (report .exit)) r × (total r ≤ 300000) ⌝ }
+{
+    let c = check_single_assignment(image, layout, degrees, externals, report, counted);
+    check_connections(image, layout, report, c)
+}
+
+// Rules 1 to 5.
+fn first_five<'a>(
+    image: &'a [u8],
+    layout: Layout,
+    texts: &'a [usize],
+    blocks: &[usize],
+    degrees: &[u32],
+    externals: &'a [u8],
+    report: &mut [u8],
+    counted: Counted,
+) -> Counted
+    requires { ⌜ Laid (now image) layout × Tabled textTag (now image) (now texts) × Tabled blockTag (now image) (now blocks) × Degrees (modelOf (now image)) (now degrees) × Listed (modelOf (now image)) (now externals) × (total counted ≤ 0) ⌝ }
+    ensures { λ r. ⌜ Put (now (report .entry)) counted (firstFive (modelOf (now (image .entry)))) (now (report .exit)) r × (total r ≤ 500000) ⌝ }
+{
+    let a = ids_and_outputs(image, layout, blocks, report, counted);
+    let b = assignments_and_connections(image, layout, degrees, externals, report, a);
+    crossed_bounds(image, layout, texts, externals, report, b)
+}
+
+// All rules, over columns of in-degrees and external ids.
+fn run_over<'a>(
+    image: &'a [u8],
+    layout: Layout,
+    texts: &'a [usize],
+    blocks: &[usize],
+    degrees: &[u32],
+    externals: &'a [u8],
+    ks: &mut [u8],
+    ms: &mut [u8],
+    ns: &mut [u64],
+    report: &mut [u8],
+) -> Counted
+    requires { ⌜ Ready (now image) layout (now texts) (now blocks) (now ks) (now ms) (now ns) × Degrees (modelOf (now image)) (now degrees) × Listed (modelOf (now image)) (now externals) ⌝ }
+    ensures { λ c. ⌜ Ran (modelOf (now (image .entry))) (now (ks .exit)) (now (ms .exit)) (now (ns .exit)) (now (report .entry)) (now (report .exit)) c ⌝ }
+{
+    let none = Counted {
+        errors: 0,
+        warnings: 0,
+    };
+    let c = first_five(
+        image,
+        layout,
+        texts,
+        blocks,
+        degrees,
+        externals,
+        report,
+        none,
+    );
+    unify_clusters(image, layout, texts, degrees, ks, ms, ns, report, c)
+}
+
+// The most connectors of an image.
+const MOST_CONNECTORS: usize = 1024;
+
+// All rules over one report, which holds nothing yet. The columns then hold the slots as rule 6 fills
+// them.
+pub fn run<'a>(
+    image: &'a [u8],
+    layout: Layout,
+    texts: &'a [usize],
+    blocks: &[usize],
+    ks: &mut [u8],
+    ms: &mut [u8],
+    ns: &mut [u64],
+    report: &mut [u8],
+) -> Counted
+    requires { ⌜ Ready (now image) layout (now texts) (now blocks) (now ks) (now ms) (now ns) ⌝ }
+    ensures { λ c. ⌜ Ran (modelOf (now (image .entry))) (now (ks .exit)) (now (ms .exit)) (now (ns .exit)) (now (report .entry)) (now (report .exit)) c ⌝ }
+{
+    let mut degrees = [0u32; MOST_CONNECTORS];
+    let mut externals = [0u8; LISTED_IDS];
+    in_degrees(image, layout, &mut degrees);
+    list_externals(image, layout, &mut externals);
+    run_over(
+        image,
+        layout,
+        texts,
+        blocks,
+        &degrees,
+        &externals,
+        ks,
+        ms,
+        ns,
+        report,
+    )
+}
