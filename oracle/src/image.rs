@@ -36,6 +36,21 @@ pub struct Connector {
     pub attrs: RawAttrs,
 }
 
+impl Connector {
+    /// One of block 0, with no enumeration's class.
+    pub fn of_first_block(id: u32, dir: u8, iri: u16, value_type: u8, attrs: RawAttrs) -> Self {
+        Connector {
+            id,
+            block: 0,
+            dir,
+            value_type,
+            enum_class: 0,
+            iri,
+            attrs,
+        }
+    }
+}
+
 #[derive(Clone, Copy, Debug, PartialEq, Eq)]
 pub struct Connection {
     pub from: u32,

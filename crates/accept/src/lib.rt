@@ -16,6 +16,8 @@ use oce_model::EXTERNAL_INPUT_TAG;
 use oce_model::Field;
 use oce_model::HEAD_TAG;
 use oce_model::LONGEST_IMAGE;
+use oce_model::MOST_BLOCKS;
+use oce_model::MOST_TEXTS;
 use oce_model::SHORTEST_IMAGE;
 use oce_model::TEXT_TAG;
 ghost use mathlib.Core.Path.{_≡_};
@@ -60,11 +62,6 @@ enum Verdict {
     Away { number: u32, at: u32 },
     Fine,
 }
-
-// The most texts and blocks that an accepted image has.
-pub const MOST_TEXTS: usize = 1024;
-
-pub const MOST_BLOCKS: usize = 256;
 
 // Where the head's Integer defaults stand.
 const INTEGER_MIN: usize = 7;

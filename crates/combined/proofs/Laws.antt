@@ -7,12 +7,12 @@ use mathlib.Core.Path.{_≡_, sym, ap, fun-ext, _∙_}
 use mathlib.Core.Logic.{_≢_}
 use mathlib.Core.Bool.{Bool, true, false, cond, _||_}
 use mathlib.Core.List.{List, [], _∷_, _++_}
-use lib.ListN.{length, getD, take, length-map, length-take, List·getD-eq-default}
+use lib.ListN.{length, getD, take, length-take, List·getD-eq-default}
 use native.Mathlib.Decide.{decLt}
 use borrow.Author.Tests.{lt-ltb, le-ltb}
 use Rattle.base.specs.Lists.{each, tab, only, same, below}
 use Rattle.base.proofs.Lists.{length-tab, getD-tab}
-use Rattle.oce_model.specs.Format.{most, connectorTag, boundaryInputTag, boundaryOutputTag}
+use Rattle.oce_model.specs.Format.{mostConnectors, mostBoundaryInputs}
 use Rattle.oce_model.specs.Model.{Model, modelOf, text, connectorCount, boundaryInput, boundaryInputCount, noBoundaryInput}
 use Rattle.oce_diag.specs.Diagnostics.{error}
 use Rattle.oce_diag.specs.Putting.{total, Put}
@@ -21,10 +21,9 @@ use Rattle.oce_diag.specs.declared.Diagnostic.{Diagnostic}
 use Rattle.oce_diag.specs.declared.Subject.the-variants.{Text}
 use Rattle.oce_diag.specs.declared.DiagCode.the-variants.{CrossedBounds}
 use Rattle.oce_diag.proofs.Putting.{put-none}
-use Rattle.accept.specs.Layout.{Laid, sectionOf, layoutOf, offsetsOf}
+use Rattle.accept.specs.Layout.{Laid}
 use Rattle.accept.specs.declared.Layout.{Layout}
-use Rattle.accept.proofs.Rooms.{accepted-room}
-use Rattle.records.proofs.Laws.{connectors-counted, inputs-counted}
+use Rattle.records.proofs.Laws.{connectors-counted, inputs-counted, connectors-few, boundary-inputs-few}
 use Rattle.texts.proofs.Order.{equal-same}
 use Rattle.sorting.specs.Sort.{keyOf, first, put, putAll, sorted}
 use Rattle.sorting.proofs.Laws.{sorted-length}
@@ -145,27 +144,9 @@ first-member a h = a .at 0 (omega arith)
 -- ---- the column of iris gives the keys
 
 module _ {s : List ℕ} {l : Layout} (h : Laid s l) where
-  -- an image has no more records than the table allows
-  pub connectors-few : l .connectors .count ≤ 1024
-  unfolding layoutOf sectionOf offsetsOf most
-  connectors-few =
-      let f : length (offsetsOf connectorTag s) ≤ 1024 = accepted-room connectorTag s (h .accepted) (omega arith) in
-      rw (h .layout) (rw length-map at f)
-
-  pub inputs-few : l .inputs .count ≤ 256
-  unfolding layoutOf sectionOf offsetsOf most
-  inputs-few =
-      let f : length (offsetsOf boundaryInputTag s) ≤ 256 = accepted-room boundaryInputTag s (h .accepted) (omega arith) in
-      rw (h .layout) (rw length-map at f)
-
-  pub outputs-few : l .outputs .count ≤ 256
-  unfolding layoutOf sectionOf offsetsOf most
-  outputs-few =
-      let f : length (offsetsOf boundaryOutputTag s) ≤ 256 = accepted-room boundaryOutputTag s (h .accepted) (omega arith) in
-      rw (h .layout) (rw length-map at f)
-
-  pub members-few : memberCount l ≤ 1280
-  members-few = omega (arith, connectors-few, inputs-few)
+  -- an image has no more members than the table allows
+  pub members-few : memberCount l ≤ mostConnectors + mostBoundaryInputs
+  members-few = omega (arith, connectors-few h, boundary-inputs-few h)
 
   iri-is : (x : ℕ) → getD (tab (memberCount l) (memberIri (modelOf s))) x 0 ≡ memberIri (modelOf s) x
   unfolding memberIri boundaryInput noBoundaryInput

@@ -17,6 +17,8 @@ use oce_diag::DiagCode;
 use oce_diag::Subject;
 use oce_diag::error;
 use oce_diag::put_if;
+use oce_model::MOST_BOUNDARY_INPUTS;
+use oce_model::MOST_CONNECTORS;
 use sorting::sort;
 use texts::same_text;
 ghost use mathlib.Core.Path.{_≡_};
@@ -24,7 +26,7 @@ ghost use mathlib.Core.Bool.{_||_};
 ghost use Prim.Native.Nat.{_+_, _<_, _≤_};
 ghost use lib.ListN.{length};
 ghost use Rattle.base.specs.Lists.{tab};
-ghost use Rattle.oce_model.specs.Format.{textTag};
+ghost use Rattle.oce_model.specs.Format.{textTag, mostConnectors, mostBoundaryInputs};
 ghost use Rattle.oce_model.specs.Model.{modelOf};
 ghost use Rattle.oce_diag.specs.Putting.{total, Put};
 ghost use Rattle.accept.specs.Layout.{Laid, Tabled};
@@ -37,7 +39,7 @@ ghost use Rattle.combined.specs.Pass.{opened, grown, counts, passFaults,
 
 // The most members that an image has: those of the table's last column, of connectors and of boundary
 // inputs.
-const MOST_MEMBERS: usize = 1280;
+const MOST_MEMBERS: usize = MOST_CONNECTORS + MOST_BOUNDARY_INPUTS;
 
 // The open group: what was counted before it, its first member, how many it has, whether one is external,
 // and what their ranges leave.
@@ -51,7 +53,7 @@ pub struct Pass {
 
 fn member_count(image: &[u8], layout: Layout) -> usize
     requires { ⌜ Laid (now image) layout ⌝ }
-    ensures { λ r. ⌜ (r ≡ memberCount layout) × (r ≤ 1280) ⌝ }
+    ensures { λ r. ⌜ (r ≡ memberCount layout) × (r ≤ mostConnectors + mostBoundaryInputs) ⌝ }
 {
     let connectors = layout.connectors;
     let inputs = layout.inputs;

@@ -21,11 +21,10 @@ use Rattle.oce_diag.proofs.Putting.{put-then}
 use Rattle.accept.specs.Layout.{Laid}
 use Rattle.accept.specs.declared.Layout.{Layout}
 use Rattle.records.specs.Records.{connectorRead, outputRead}
-use Rattle.records.proofs.Laws.{connectors-counted, inputs-counted, outputs-counted}
+use Rattle.records.proofs.Laws.{connectors-counted, inputs-counted, outputs-counted, connectors-few, boundary-inputs-few, boundary-outputs-few}
 use Rattle.crossed_bounds.specs.Ranges.{rangeOf, crossed}
 use Rattle.crossed_bounds.specs.CrossedBounds.{crossedFaults, groups, groupsFaults, rule5}
 use Rattle.crossed_bounds.specs.declared.Range.{Range}
-use Rattle.combined.proofs.Laws.{connectors-few, inputs-few, outputs-few}
 use Rattle.crossed.specs.Details.{connectorCrossed, inputCrossed, outputCrossed}
 
 -- ---- one record
@@ -60,10 +59,10 @@ module _ {s : List ℕ} {l : Layout} (h : Laid s l) where
   connectors-room = omega (arith, connectors-few h)
 
   pub inputs-room : l .inputs .count ≤ 65536
-  inputs-room = omega (arith, inputs-few h)
+  inputs-room = omega (arith, boundary-inputs-few h)
 
   pub outputs-room : l .outputs .count ≤ 65536
-  outputs-room = omega (arith, outputs-few h)
+  outputs-room = omega (arith, boundary-outputs-few h)
 
 pub number-small : {i n : ℕ} → i < n → n ≤ 65536 → i < 4294967296
 number-small k h = omega arith

@@ -7,12 +7,21 @@ use numbers::at16;
 use numbers::wide;
 use oce_model::BLOCK_LENGTH;
 use oce_model::BLOCK_TAG;
+use oce_model::FIRST_TEXT_BYTE;
 use oce_model::Field;
 use oce_model::HEAD_TAG;
 use oce_model::HIGHEST_TAG;
+use oce_model::LAST_TEXT_BYTE;
 use oce_model::LEADING_BYTES;
 use oce_model::LONGEST_TEXT;
+use oce_model::MOST_BLOCKS;
+use oce_model::MOST_BOUNDARY_INPUTS;
+use oce_model::MOST_BOUNDARY_OUTPUTS;
+use oce_model::MOST_CONNECTIONS;
+use oce_model::MOST_CONNECTORS;
+use oce_model::MOST_EXTERNAL_INPUTS;
 use oce_model::MOST_PORTS;
+use oce_model::MOST_TEXTS;
 use oce_model::PORT_LENGTH;
 use oce_model::TEXT_TAG;
 ghost use mathlib.Core.Path.{_≡_};
@@ -106,7 +115,17 @@ pub fn bad_length(s: &[u8], f: Field) -> bool
 fn most_of(tag: usize) -> usize
     ensures { λ r. ⌜ r ≡ most tag ⌝ }
 {
-    let table: [usize; 9] = [0, 1, 1024, 256, 1024, 2048, 1024, 256, 256];
+    let table: [usize; 9] = [
+        0,
+        1,
+        MOST_TEXTS,
+        MOST_BLOCKS,
+        MOST_CONNECTORS,
+        MOST_CONNECTIONS,
+        MOST_EXTERNAL_INPUTS,
+        MOST_BOUNDARY_INPUTS,
+        MOST_BOUNDARY_OUTPUTS,
+    ];
     if tag < 9 {
         return table[tag];
     }
@@ -124,8 +143,8 @@ pub fn too_many(f: Field) -> bool
 fn is_text_byte(b: usize) -> bool
     ensures { λ r. ⌜ r ≡ isTextByte b ⌝ }
 {
-    if 0x20 <= b {
-        return b <= 0x7E;
+    if FIRST_TEXT_BYTE <= b {
+        return b <= LAST_TEXT_BYTE;
     }
     false
 }

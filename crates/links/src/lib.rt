@@ -2,6 +2,7 @@
 use accept::Layout;
 use attributes::attrs_kind;
 use oce_model::ConnectorId;
+use oce_model::DIR_IN;
 use records::boundary_output;
 use records::boundary_output_attrs;
 use records::connection;
@@ -13,9 +14,6 @@ ghost use Rattle.oce_model.specs.Model.{modelOf, connection, boundaryOutput, co
 ghost use Rattle.accept.specs.Layout.{Laid};
 ghost use Rattle.degrees.specs.Columns.{Degrees};
 ghost use Rattle.links.specs.Links.{linkCount, connectionRoot, outputRoot, rootOf, targetOf, Empty, Linked, Gathered};
-
-// A direction, as the Rust's `Dir`.
-const DIR_IN: usize = 0;
 
 // ---- roots and targets
 

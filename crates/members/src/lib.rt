@@ -4,6 +4,7 @@ use accept::Layout;
 use crossed_bounds::Range;
 use degrees::is_external;
 use oce_model::ConnectorId;
+use oce_model::DIR_IN;
 use oce_model::NO_TEXT;
 use ranges::range_of;
 use records::boundary_input_attrs;
@@ -21,9 +22,6 @@ ghost use Rattle.accept.specs.Layout.{Laid};
 ghost use Rattle.degrees.specs.Columns.{Listed};
 ghost use Rattle.crossed_bounds.specs.CrossedBounds.{memberIri, memberAttrs, memberExternal};
 ghost use Rattle.members.specs.Members.{memberCount, isMember, memberRange, memberJoins, joining, Continued};
-
-// The direction In, as specs/Format.antt of oce_model has it.
-const DIR_IN: usize = 0;
 
 // ---- one member
 

@@ -11,7 +11,7 @@ use mathlib.Core.Option.{none}
 use lib.ListN.{length}
 use lib.Dec.{eqb, leb, ltb}
 use borrow.Author.Tests.{ne-eqb, le-ltb}
-use Rattle.oce_model.specs.Format.{blockTag, boundaryInputAttrs, boundaryInputTag, boundaryOutputAttrs, boundaryOutputTag, connectorAttrs, connectorTag, headTag, textTag}
+use Rattle.oce_model.specs.Format.{blockTag, boundaryInputAttrs, boundaryInputTag, boundaryOutputAttrs, boundaryOutputTag, connectorAttrs, connectorTag, headTag, textTag, shortestImage, longestImage}
 use Rattle.oce_model.specs.Attributes.{attrsAt}
 use Rattle.oce_model.specs.Image.{fields, stop, ofTag, fieldAt}
 use Rattle.oce_model.specs.Model.{Connector, blockAt, connectorAt, boundaryInputAt, boundaryOutputAt}
@@ -164,8 +164,8 @@ module _ (s t : List ℕ) (σ : Slots) (acc : Accepted s) (w : Rewritten s t σ)
       rw (
         fields-same s t σ acc w,
         e,
-        le-ltb (length t) 23 (omega (arith, acc .long)),
-        le-ltb 65535 (length t) (omega (arith, acc .short)),
+        le-ltb (length t) shortestImage (omega (arith, acc .long)),
+        le-ltb longestImage (length t) (omega (arith, acc .short)),
         first-none badTag (fields s) (none-mem badTag (fields s) (acc .tags)),
         first-none (badLength t) (fields s) length-fine,
         first-none tooMany (fields s) (none-mem tooMany (fields s) (acc .counts)),

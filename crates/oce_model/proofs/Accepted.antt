@@ -11,7 +11,7 @@ use lib.ListN.{length, length-map}
 use lib.Dec.{leb, eqb, ltb}
 use borrow.Author.Tests.{ne-eqb, not-false, eqb-true, leb-true, ltb-false}
 use Rattle.numbers.specs.Bytes.{byte}
-use Rattle.oce_model.specs.Format.{blockTag, boundaryInputTag, boundaryOutputTag, connectionTag, connectorTag, externalInputTag, headTag, highestTag, textTag, fixedLength}
+use Rattle.oce_model.specs.Format.{blockTag, boundaryInputTag, boundaryOutputTag, connectionTag, connectorTag, externalInputTag, headTag, highestTag, textTag, fixedLength, mostPorts, shortestImage, longestImage}
 use Rattle.oce_model.specs.Image.{fieldAt, fieldEnd, fields, ofTag, stop, stopFrom}
 use Rattle.oce_model.specs.Model.{inputCountAt, outputCountAt, boundaryInput, boundaryInputAt, boundaryInputCount, boundaryOutput, boundaryOutputAt, boundaryOutputCount, connection, connectionAt, connectionCount, connector, connectorAt, connectorCount, modelOf, noBoundaryInput, noBoundaryOutput, noConnection, noConnector}
 use Rattle.oce_model.specs.Refusals.{Refusal, badBlockLength, badContents, badLength, badReference, badTag, badText, fault, refusal, refusalsFrom, refusedAt, tagIsBad, tooMany}
@@ -23,8 +23,8 @@ use Rattle.oce_model.proofs.Fields.{None, none-mem, none-of, nth}
 -- ---- an image that is not turned away: what each refusal then says
 
 pub record Accepted (s : List ℕ) : Type 0 where
-  pub long : 23 ≤ length s
-  pub short : length s ≤ 65535
+  pub long : shortestImage ≤ length s
+  pub short : length s ≤ longestImage
   pub ends : stop s ≡ length s
   pub tags : None badTag (fields s)
   pub lengths : None (badLength s) (fields s)
@@ -61,7 +61,7 @@ not-refused false x r h = (refl, h)
 pub accepted : (s : List ℕ) → refusal s ≡ none → Accepted s
 unfolding refusal refusalsFrom fault
 accepted s h =
-    let p = not-refused (ltb (length s) 23 || ltb 65535 (length s)) _ _ h in
+    let p = not-refused (ltb (length s) shortestImage || ltb longestImage (length s)) _ _ h in
     let q = not-refused (ltb (stop s) (length s)) _ _ (p .1) in
     let r3 = passed 3 _ _ (q .1) in
     let r4 = passed 4 _ _ (r3 .1) in
@@ -70,8 +70,8 @@ accepted s h =
     let r7 = passed 7 _ _ (r6 .1) in
     let r8 = passed 8 _ _ (r7 .1) in
     record {
-      long = ltb-false (length s) 23 (or-parts _ _ (p .0) .0);
-      short = ltb-false 65535 (length s) (or-parts (ltb (length s) 23) _ (p .0) .1);
+      long = ltb-false (length s) shortestImage (or-parts _ _ (p .0) .0);
+      short = ltb-false longestImage (length s) (or-parts (ltb (length s) shortestImage) _ (p .0) .1);
       ends = stops s (q .0);
       tags = none-of badTag (fields s) (r3 .0);
       lengths = none-of (badLength s) (fields s) (r4 .0);
@@ -128,8 +128,8 @@ block-length s f e h =
     let g = rw e at h in
     let n = f .len in
     let m = 10 + 4 * (inputCountAt s (f .at) + outputCountAt s (f .at)) in
-    let a = ltb 256 (inputCountAt s (f .at)) in
-    let b = ltb 256 (outputCountAt s (f .at)) in
+    let a = ltb mostPorts (inputCountAt s (f .at)) in
+    let b = ltb mostPorts (outputCountAt s (f .at)) in
     eqb-true n m (not-false (eqb n m) (or-parts (not (eqb n m)) a (or-parts (not (eqb n m) || a) b g .0) .0))
 
 module _ (s : List ℕ) (acc : Accepted s) where

@@ -128,6 +128,13 @@ dirIn = 0
 abbrev pub dirOut : ℕ
 dirOut = 1
 
+-- ---- texts: 'bytes of 0x20 to 0x7E'
+abbrev pub firstTextByte : ℕ
+firstTextByte = 0x20
+
+abbrev pub lastTextByte : ℕ
+lastTextByte = 0x7E
+
 -- ---- the text number that means none, only for a block's instance and a connector's iri
 abbrev pub noText : ℕ
 noText = 65535

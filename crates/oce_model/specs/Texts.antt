@@ -5,14 +5,14 @@ use mathlib.Core.Bool.{Bool, true, false, cond, _&&_}
 use mathlib.Core.List.{List, [], _∷_}
 use lib.ListN.{take, drop}
 use lib.Dec.{leb, ltb}
-use Rattle.oce_model.specs.Format.{leadingBytes}
+use Rattle.oce_model.specs.Format.{leadingBytes, firstTextByte, lastTextByte}
 use Rattle.oce_model.specs.Image.{Field}
 use Rattle.oce_model.specs.declared.Ordering.{Ordering}
 use Rattle.oce_model.specs.declared.Ordering.the-variants.{Less, Equal, Greater}
 
 -- a byte that a text may hold: document 01, 'bytes of 0x20 to 0x7E'
 unfoldable pub isTextByte : ℕ → Bool
-isTextByte b = leb 0x20 b && leb b 0x7E
+isTextByte b = leb firstTextByte b && leb b lastTextByte
 
 -- the bytes of the text in a field
 unfoldable pub textOf : List ℕ → Field → List ℕ

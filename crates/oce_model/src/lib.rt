@@ -93,6 +93,26 @@ pub const BOUNDARY_OUTPUT_TAG: usize = 8;
 
 pub const HIGHEST_TAG: usize = BOUNDARY_OUTPUT_TAG;
 
+// the most records of each tag
+pub const MOST_TEXTS: usize = 1024;
+
+pub const MOST_BLOCKS: usize = 256;
+
+pub const MOST_CONNECTORS: usize = 1024;
+
+pub const MOST_CONNECTIONS: usize = 2048;
+
+pub const MOST_EXTERNAL_INPUTS: usize = 1024;
+
+pub const MOST_BOUNDARY_INPUTS: usize = 256;
+
+pub const MOST_BOUNDARY_OUTPUTS: usize = 256;
+
+// the bytes and the length that a text may have
+pub const FIRST_TEXT_BYTE: usize = 0x20;
+
+pub const LAST_TEXT_BYTE: usize = 0x7E;
+
 pub const LONGEST_TEXT: usize = 255;
 
 pub const BLOCK_LENGTH: usize = 10;
@@ -112,6 +132,9 @@ pub const REAL_KIND: usize = 0;
 pub const INTEGER_KIND: usize = 1;
 
 pub const ENUM_KIND: usize = 4;
+
+// directions, as the Rust's `Dir`
+pub const DIR_IN: usize = 0;
 
 pub const DIR_OUT: usize = 1;
 

@@ -1,11 +1,11 @@
 // Replays the oracle's stored answers (docs/STORED_ANSWERS.md): reads each image of the files that its
 // arguments name, and says how many are refused, and which of them not as the oracle refuses them.
 use accept::Acceptance;
-use accept::MOST_BLOCKS;
-use accept::MOST_TEXTS;
 use accept::accept;
 use base::part_of;
 use libc::STDOUT_FILENO;
+use oce_model::MOST_BLOCKS;
+use oce_model::MOST_TEXTS;
 use std::num::wrapping_add_u64;
 use stored::FIRST_RECORD;
 use stored::Reading;

@@ -9,7 +9,6 @@ use mathlib.Core.List.{List, _++_, append-assoc}
 use lib.Dec.{eqb}
 use lib.ListN.{length, getD, replicate, length-replicate}
 use borrow.Author.Tests.{eq-eqb, ne-eqb, eqb-true, eqb-false}
-use Rattle.oce_model.specs.Format.{mostConnectors}
 use Rattle.oce_model.specs.Model.{Model, modelOf, connectorCount}
 use Rattle.oce_diag.specs.Diagnostics.{hasError, errors}
 use Rattle.oce_diag.specs.declared.Diagnostic.{Diagnostic}
@@ -82,6 +81,3 @@ zeros-at (suc n) (suc i) = zeros-at n i
 pub nothing-listed : (m : Model) → Lists m 0 (replicate listedIds 0)
 unfolding below
 nothing-listed m = record { room = omega (arith, length-replicate {A = ℕ} listedIds 0); each = λ i l. zeros-at listedIds i }
-
-pub few-connectors : {s : List ℕ} {l : Layout} → Laid s l → l .connectors .count ≤ mostConnectors
-few-connectors h = connectors-few h

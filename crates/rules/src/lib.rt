@@ -7,6 +7,7 @@ use degrees::LISTED_IDS;
 use degrees::in_degrees;
 use degrees::list_externals;
 use oce_diag::Counted;
+use oce_model::MOST_CONNECTORS;
 use unify_clusters::unify_clusters;
 use wiring::check_boundary_outputs;
 use wiring::check_connections;
@@ -103,9 +104,6 @@ fn run_over<'a>(
     );
     unify_clusters(image, layout, texts, degrees, ks, ms, ns, report, c)
 }
-
-// The most connectors of an image.
-const MOST_CONNECTORS: usize = 1024;
 
 // All rules over one report, which holds nothing yet. The columns then hold the slots as rule 6 fills
 // them.

@@ -3,6 +3,9 @@
 use accept::Layout;
 use links::link_all;
 use oce_diag::Counted;
+use oce_model::MOST_BOUNDARY_OUTPUTS;
+use oce_model::MOST_CONNECTIONS;
+use oce_model::MOST_CONNECTORS;
 use propagated::propagated;
 use roots::roots;
 use slots_image::load_slots;
@@ -17,13 +20,7 @@ ghost use Rattle.slots_image.specs.Loading.{Read};
 ghost use Rattle.roots.specs.Roots.{Stage};
 ghost use Rattle.unify_clusters.specs.Unified.{Unified};
 
-// The most records of each kind that an accepted image has.
-const MOST_CONNECTORS: usize = 1024;
-
-const MOST_CONNECTIONS: usize = 2048;
-
-const MOST_BOUNDARY_OUTPUTS: usize = 256;
-
+// The most links that an accepted image has.
 const MOST_LINKS: usize = MOST_CONNECTIONS + MOST_BOUNDARY_OUTPUTS;
 
 // A root and the slots that its links lead to.

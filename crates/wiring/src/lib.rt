@@ -12,6 +12,7 @@ use oce_diag::subject_of;
 use oce_model::Connection;
 use oce_model::Connector;
 use oce_model::ConnectorId;
+use oce_model::DIR_IN;
 use records::boundary_output;
 use records::boundary_output_attrs;
 use records::connection;
@@ -27,9 +28,6 @@ ghost use Rattle.oce_diag.specs.Putting.{Put, total};
 ghost use Rattle.structural.specs.Structural.{sameType, outputFaults, rule2, connectionFaults, rule4};
 ghost use Rattle.accept.specs.Layout.{Laid};
 ghost use Rattle.wiring.specs.PerRecord.{sourceFaults, within, endFaults};
-
-// A direction, as the Rust's `Dir`.
-pub const DIR_IN: usize = 0;
 
 // ---- rule 2
 

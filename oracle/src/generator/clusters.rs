@@ -142,14 +142,7 @@ fn add(
     } else {
         NO_TEXT
     };
-    draft.connectors.push(Connector {
-        id,
-        block: 0,
-        dir,
-        value_type,
-        enum_class: 0,
-        iri,
-        attrs,
-    });
+    let member = Connector::of_first_block(id, dir, iri, value_type, attrs);
+    draft.connectors.push(member);
     id
 }

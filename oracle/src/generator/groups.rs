@@ -53,21 +53,8 @@ fn add_input(r: &mut Random, draft: &mut Draft, iri: &[u8], attrs: RawAttrs) {
     let iri = text(r, draft, iri);
     let id = draft.connectors.len() as u32;
     draft.external_inputs.push(id);
-    draft
-        .connectors
-        .push(connector(id, DIR_IN, iri, attrs.kind, attrs));
-}
-
-fn connector(id: u32, dir: u8, iri: u16, value_type: u8, attrs: RawAttrs) -> Connector {
-    Connector {
-        id,
-        block: 0,
-        dir,
-        value_type,
-        enum_class: 0,
-        iri,
-        attrs,
-    }
+    let input = Connector::of_first_block(id, DIR_IN, iri, attrs.kind, attrs);
+    draft.connectors.push(input);
 }
 
 /// Groups of any members, most of them external.
@@ -86,7 +73,8 @@ fn mixed_groups(r: &mut Random, draft: &mut Draft, pool: &Pool, kind: u8) {
         if r.chance(7, 8) {
             draft.external_inputs.push(id);
         }
-        draft.connectors.push(connector(id, dir, iri, kind, attrs));
+        let member = Connector::of_first_block(id, dir, iri, kind, attrs);
+        draft.connectors.push(member);
     }
     for _ in 0..r.between(0, 3) {
         let iri = if r.chance(7, 8) {

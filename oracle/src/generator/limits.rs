@@ -96,15 +96,7 @@ fn pair() -> Draft {
 }
 
 fn connector(id: u32, dir: u8) -> Connector {
-    Connector {
-        id,
-        block: 0,
-        dir,
-        value_type: KIND_REAL,
-        enum_class: 0,
-        iri: NO_TEXT,
-        attrs: RawAttrs::of_kind(KIND_REAL),
-    }
+    Connector::of_first_block(id, dir, NO_TEXT, KIND_REAL, RawAttrs::of_kind(KIND_REAL))
 }
 
 fn add_blocks(draft: &mut Draft, count: usize) {

@@ -2,7 +2,7 @@
 -- Assumes nothing.
 use native.Mathlib.Omega.{arith}
 use borrow.Author.Needs.{needs}
-use Rattle.combined.proofs.Laws.{connectors-few, inputs-few, outputs-few}
+use Rattle.records.proofs.Laws.{connectors-few, boundary-inputs-few, boundary-outputs-few}
 use Rattle.crossed.proofs.Laws.{rule5-put}
 use Rattle.crossed.proofs.crossed_bounds.Statement.{statement}
 use Rattle.crossed.proofs.crossed_bounds.Tie as tie
@@ -15,14 +15,14 @@ inputs-crossed-requires c κs =
 outputs-crossed-requires : tie.Need-outputs-crossed-requires
 outputs-crossed-requires c κs =
     let pre = c .before .before .before .before .before .before .before .before .before .before .before .before .before .pre in
-    (pre .0, omega (arith, pre .3, c .before .before .before .before .before .before .before .connectors-crossed .ensures .1, c .before .before .before .inputs-crossed .ensures .1, connectors-few (pre .0), inputs-few (pre .0)))
+    (pre .0, omega (arith, pre .3, c .before .before .before .before .before .before .before .connectors-crossed .ensures .1, c .before .before .before .inputs-crossed .ensures .1, connectors-few (pre .0), boundary-inputs-few (pre .0)))
 
 combined-domains-requires : tie.Need-combined-domains-requires
 combined-domains-requires c κs =
     let pre = c .before .before .before .before .before .before .before .before .before .before .before .before .before .before .before .before .before .pre in
     let a = c .before .before .before .before .before .before .before .before .before .before .before .connectors-crossed .ensures .1 in
     let b = c .before .before .before .before .before .before .before .inputs-crossed .ensures .1 in
-    (pre .0, pre .1, pre .2, omega (arith, pre .3, a, b, c .before .before .before .outputs-crossed .ensures .1, connectors-few (pre .0), inputs-few (pre .0), outputs-few (pre .0)))
+    (pre .0, pre .1, pre .2, omega (arith, pre .3, a, b, c .before .before .before .outputs-crossed .ensures .1, connectors-few (pre .0), boundary-inputs-few (pre .0), boundary-outputs-few (pre .0)))
 
 returns : tie.Need-returns
 returns c =
@@ -31,7 +31,7 @@ returns c =
     let q = c .before .before .before .before .before .before .before .before .before .before .inputs-crossed .ensures in
     let r = c .before .before .before .before .before .before .outputs-crossed .ensures in
     let u = c .before .before .combined-domains .ensures in
-    (rule5-put (pre .0) (p .0) (q .0) (r .0) (u .0), omega (arith, p .1, q .1, r .1, u .1, connectors-few (pre .0), inputs-few (pre .0), outputs-few (pre .0)))
+    (rule5-put (pre .0) (p .0) (q .0) (r .0) (u .0), omega (arith, p .1, q .1, r .1, u .1, connectors-few (pre .0), boundary-inputs-few (pre .0), boundary-outputs-few (pre .0)))
 
 pub crossed-bounds-spec : {M : Type 1} → statement M
 crossed-bounds-spec =

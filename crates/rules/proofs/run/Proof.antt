@@ -1,7 +1,8 @@
 -- `rules::run` meets its contract: the two columns, then all rules.
 -- Assumes nothing.
 use borrow.Author.Needs.{needs}
-use Rattle.rules.proofs.Laws.{few-connectors, nothing-listed}
+use Rattle.records.proofs.Laws.{connectors-few}
+use Rattle.rules.proofs.Laws.{nothing-listed}
 use Rattle.rules.proofs.run.Statement.{statement}
 use Rattle.rules.proofs.run.Tie as tie
 
@@ -10,9 +11,9 @@ run-spec =
     tie.close
     (tie.spec
     (λ c. search needs)
-    (λ c κs. search (few-connectors, nothing-listed, needs))
+    (λ c κs. search (connectors-few, nothing-listed, needs))
     (λ c. search needs)
-    (λ c κs. search (few-connectors, nothing-listed, needs))
+    (λ c κs. search (connectors-few, nothing-listed, needs))
     (λ c. search needs)
     (λ c. search needs)
     (λ c κs. search needs)
