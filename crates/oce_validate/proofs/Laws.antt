@@ -1,24 +1,142 @@
 -- Each way that a checking call can end gives what the definitions say.
 -- Assumes nothing.
 use Prim.Native.Nat.{ℕ, _+_, _*_, _<_, _≤_}
+use native.Mathlib.Nat.{zero-add}
 use native.Mathlib.Omega.{arith}
 use mathlib.Core.Path.{_≡_, refl, sym, ap, _∙_}
-use mathlib.Core.List.{List}
+use mathlib.Core.Bool.{true, false, cond}
+use mathlib.Core.List.{List, [], _∷_}
 use mathlib.Core.Option.{Option, none, some}
-use lib.ListN.{length}
+use lib.ListN.{length, replicate, length-replicate}
 use lib.Dec.{ltb}
+use mir.Syntax.{w32, w64}
+use mir.Val.{Fits}
 use borrow.Author.Tests.{lt-ltb, le-ltb}
 use Rattle.base.specs.Buffers.{startsWith}
+use Rattle.base.proofs.Buffers.{startsWith-length}
+use Rattle.oce_model.specs.Format.{textTag, blockTag, most, longestImage, mostConnectors, mostBoundaryOutputs}
+use Rattle.oce_model.specs.Model.{modelOf}
 use Rattle.oce_model.specs.Refusals.{Refusal, refusal}
-use Rattle.oce_diag.specs.Diagnostics.{errors, warnings}
+use Rattle.oce_model.proofs.Accepted.{accepted}
+use Rattle.oce_diag.specs.Diagnostics.{hasError, errors, warnings}
 use Rattle.oce_diag.specs.Encoding.{diagnosticSize, reportBytes}
+use Rattle.oce_diag.specs.Putting.{total}
 use Rattle.oce_diag.specs.declared.Counted.{Counted}
-use Rattle.oce_diag.proofs.Diagnostics.{errors-warnings}
-use Rattle.outcome.specs.Filled.{filledOf}
+use Rattle.oce_diag.specs.declared.Diagnostic.{Diagnostic}
+use Rattle.oce_diag.proofs.Diagnostics.{errors-warnings, no-errors, some-error}
+use Rattle.oce_diag.proofs.Putting.{put-errors, put-warnings, put-room}
+use Rattle.accept.specs.Layout.{Laid, Tabled, acceptance, accepts, ifAccepted, offsetsOf, tableAfter}
+use Rattle.accept.specs.declared.Layout.{Layout}
+use Rattle.accept.proofs.Rooms.{accepted-room}
+use Rattle.accept.specs.declared.Acceptance.{Acceptance}
+use Rattle.accept.specs.declared.Acceptance.the-variants as accepting
+use Rattle.records.proofs.Laws.{connectors-counted, connectors-few, outputs-counted, boundary-outputs-few}
+use Rattle.slots.specs.Columns.{width, slotCount, view, Room}
+use Rattle.outcome.specs.Filled.{withSlots, filledOf}
+use Rattle.outcome.specs.Report.{finalSlots}
 use Rattle.outcome.specs.Answer.{reportOf, reportSize, answerFor, answer, ifChecked, filledAfter, reportAfter}
 use Rattle.outcome.specs.declared.Answer.{Answer}
 use Rattle.outcome.specs.declared.Answer.the-variants.{Refused, Checked}
+use Rattle.rules.specs.Ran.{Ready, Ran}
+use Rattle.moved.specs.Moved.{Bytes}
+use Rattle.moved.proofs.FilledImage.{filled-undone}
 use Rattle.oce_validate.specs.Answered.{Answered, Tallied}
+
+-- ---- a run of all rules
+
+module _ {s ks ms ns b b′ : List ℕ} {c : Counted} (q : Ran (modelOf s) ks ms ns b b′ c) where
+  pub tallied : Tallied s ks ms ns c
+  unfolding reportOf
+  tallied = record { errors = put-errors (q .put) refl; warnings = put-warnings (q .put) refl; few = q .few; slots = q .slots; room = q .room }
+
+  -- over a report with room for what was counted before
+  pub report-written : {xs ys zs : List ℕ} {n : Counted} → Tallied s xs ys zs n → diagnosticSize * total n ≤ length b → b′ ≡ startsWith (reportBytes (reportOf s)) b
+  unfolding reportOf
+  report-written {n = n} t l =
+      let k : total n ≡ length (reportOf s) = omega (arith, t .errors, t .warnings, errors-warnings (reportOf s)) in
+      put-room (q .put) refl (rw k at l)
+
+-- ---- what is left in the buffers
+
+module _ {s ks ms ns : List ℕ} {c : Counted} (t : Tallied s ks ms ns c) where
+  -- nothing to report
+  pub report-empty : (r : List ℕ) → total c ≡ 0 → r ≡ startsWith (reportBytes (reportOf s)) r
+  unfolding startsWith reportBytes
+  report-empty r z =
+      let k : length (reportOf s) ≡ 0 = omega (arith, t .errors, t .warnings, errors-warnings (reportOf s)) in
+      rw (empty (reportOf s) k)
+    where
+      empty : (ds : List Diagnostic) → length ds ≡ 0 → ds ≡ []
+      empty [] e = refl
+      empty (d ∷ ds) e = absurd (omega arith)
+
+  -- with an error the image stays as it is
+  pub filled-kept : (f : List ℕ) {f′ : List ℕ} {l : Layout} → Laid s l → Bytes s → f′ ≡ startsWith s f → 0 < c .errors → f′ ≡ startsWith (filledOf s) f
+  filled-kept f h bytes e n = e ∙ ap (λ x. startsWith x f) (sym (filled-undone s bytes (h .accepted) (some-error (reportOf s) (omega (arith, t .errors)))))
+
+  final : c .errors ≡ 0 → withSlots s (view (slotCount (modelOf s)) ks ms ns) ≡ filledOf s
+  unfolding filledOf finalSlots reportOf
+  final z = rw (no-errors (reportOf s) (sym (t .errors) ∙ z)) (ap (withSlots s) (t .slots))
+
+-- ---- sizes
+
+module _ {s : List ℕ} {l : Layout} (h : Laid s l) where
+  pub image-small : Fits w32 (length s)
+  image-small = record { fits = omega (arith, accepted s (h .accepted) .short) }
+
+  pub slots-counted : {n : ℕ} → n ≡ l .connectors .count + l .outputs .count → n ≡ slotCount (modelOf s)
+  slots-counted e = omega (arith, e, connectors-counted h, outputs-counted h)
+
+  pub slots-room : {ks ms ns : List ℕ} {c : Counted} {n : ℕ} → Tallied s ks ms ns c → n ≡ l .connectors .count + l .outputs .count → Room n ks ms ns
+  slots-room t e = rw (slots-counted e) (t .room)
+
+  pub slots-few : Fits w64 (l .connectors .count + l .outputs .count)
+  slots-few = record { fits = omega (arith, connectors-few h, boundary-outputs-few h) }
+
+-- with no error the slots' attributes stand in it
+pub filled-written : (f : List ℕ) {s ks ms ns f′ : List ℕ} {c : Counted} {l : Layout} (n : ℕ) → Tallied s ks ms ns c → Laid s l → f′ ≡ startsWith (withSlots s (view n ks ms ns)) f
+    → n ≡ l .connectors .count + l .outputs .count → c .errors ≤ 0 → f′ ≡ startsWith (filledOf s) f
+filled-written f {s} {ks} {ms} {ns} {c = c} n t h e k z =
+    let none : c .errors ≡ 0 = omega arith in
+    e ∙ ap (λ x. startsWith x f) (ap (λ n. withSlots s (view n ks ms ns)) (slots-counted h k) ∙ final t none)
+
+-- ---- tables
+
+-- a table with room for the most records of a tag stays as long as it is
+pub table-long : (t : ℕ) (s : List ℕ) {table : List ℕ} → table ≡ tableAfter t s (replicate (most t) 0) → length table ≡ most t
+unfolding tableAfter acceptance
+table-long t s q = ap length q ∙ arm (refusal s) refl ∙ room
+  where
+    zeros : List ℕ
+    zeros = replicate (most t) 0
+
+    room : length zeros ≡ most t
+    room = length-replicate (most t) 0
+
+    arm : (o : Option Refusal) → refusal s ≡ o → length (ifAccepted (accepts s o) (startsWith (offsetsOf t s) zeros) zeros) ≡ length zeros
+    arm none e = startsWith-length (offsetsOf t s) zeros (accepted-room t s e (omega (arith, room)))
+    arm (some x) e = refl
+
+-- ---- columns
+
+pub ready : {s texts blocks ks ms ns : List ℕ} {l : Layout} → Laid s l → Tabled textTag s texts → Tabled blockTag s blocks
+    → mostConnectors + mostBoundaryOutputs ≤ length ks → mostConnectors + mostBoundaryOutputs ≤ length ms → width * (mostConnectors + mostBoundaryOutputs) ≤ length ns
+    → Ready s l texts blocks ks ms ns
+ready {s} h t b p q r = record {
+  laid = h;
+  text-table = t;
+  block-table = b;
+  room = record { kinds = omega (arith, p, few); marks = omega (arith, q, few); nums = omega (arith, r, few) };
+}
+  where
+    few : slotCount (modelOf s) ≤ mostConnectors + mostBoundaryOutputs
+    few = omega (arith, connectors-few h, connectors-counted h, boundary-outputs-few h, outputs-counted h)
+
+-- the columns may be used again
+pub ready-again : {s texts blocks ks ms ns ks′ ms′ ns′ : List ℕ} {l : Layout} {c : Counted} → Ready s l texts blocks ks ms ns → Tallied s ks′ ms′ ns′ c → Ready s l texts blocks ks′ ms′ ns′
+ready-again v t = record { laid = v .laid; text-table = v .text-table; block-table = v .block-table; room = t .room }
+
+-- ---- the answer
 
 -- an answer that is known gives the buffers
 refused-so : (s f r : List ℕ) (n at : ℕ) → answer s (length f) (length r) ≡ Refused n at → Answered s f r (Refused n at) f r
@@ -30,32 +148,39 @@ unfolding filledAfter reportAfter
 checked-so s f r e w q = record { answer = sym q; filled = rw q; report = rw q }
 
 -- refusals 1 to 8
-pub turned-away : (s f r : List ℕ) {n at : ℕ} → refusal s ≡ some (record { number = n; offset = at }) → Answered s f r (Refused n at) f r
-unfolding answer
-turned-away s f r {n} {at} h = refused-so s f r n at (rw h)
+away : (s : List ℕ) (n at filled room : ℕ) (o : Option Refusal) → accepts s o ≡ accepting.Refused n at → answerFor s filled room o ≡ Refused n at
+away s n at filled room none h = let z : _≡_ {A = ℕ} 0 1 = cc in absurd (omega arith)
+away s n at filled room (some r) h =
+    let p : r .number ≡ n = cc in
+    let q : r .offset ≡ at = cc in
+    rw (p, q)
 
-module _ {s : List ℕ} (f r : List ℕ) (h : refusal s ≡ none) where
+pub turned-away : {s : List ℕ} (f r : List ℕ) {a : Acceptance} {n at : ℕ} → a ≡ acceptance s → a ≡ accepting.Refused n at → Answered s f r (Refused n at) f r
+unfolding answer acceptance
+turned-away {s} f r {n = n} {at} e h = refused-so s f r n at (away s n at (length f) (length r) (refusal s) (sym e ∙ h))
+
+module _ {s : List ℕ} (f r : List ℕ) {l : Layout} (h : Laid s l) where
   -- refusal 9
   pub short-filled : length f < length s → Answered s f r (Refused 9 (length s)) f r
   unfolding answer
-  short-filled l = refused-so s f r 9 (length s) (rw (h, lt-ltb (length f) (length s) l))
+  short-filled l = refused-so s f r 9 (length s) (rw (h .accepted, lt-ltb (length f) (length s) l))
 
-  module _ {c : Counted} (t : Tallied s c) where
-    size-is : diagnosticSize * (c .errors + c .warnings) ≡ reportSize (reportOf s)
+  module _ {ks ms ns : List ℕ} {c : Counted} (t : Tallied s ks ms ns c) where
+    size-is : diagnosticSize * total c ≡ reportSize (reportOf s)
     size-is = let e = t .errors in let w = t .warnings in let n = errors-warnings (reportOf s) in ap (λ k. diagnosticSize * k) (omega arith)
 
     -- refusal 10
-    pub short-report : length s ≤ length f → length r < diagnosticSize * (c .errors + c .warnings) → Answered s f r (Refused 10 (diagnosticSize * (c .errors + c .warnings))) f r
+    pub short-report : length s ≤ length f → length r < diagnosticSize * total c → Answered s f r (Refused 10 (diagnosticSize * total c)) f r
     unfolding answer
     short-report k l =
         let g : length r < reportSize (reportOf s) = rw size-is at l in
-        rw size-is (refused-so s f r 10 (reportSize (reportOf s)) (rw (h, le-ltb (length f) (length s) k, lt-ltb (length r) (reportSize (reportOf s)) g)))
+        rw size-is (refused-so s f r 10 (reportSize (reportOf s)) (rw (h .accepted, le-ltb (length f) (length s) k, lt-ltb (length r) (reportSize (reportOf s)) g)))
 
     -- no refusal
-    pub reported : {f′ r′ : List ℕ} → length s ≤ length f → diagnosticSize * (c .errors + c .warnings) ≤ length r
-        → f′ ≡ startsWith (filledOf s) f → r′ ≡ startsWith (reportBytes (reportOf s)) r → Answered s f r (Checked (c .errors) (c .warnings)) f′ r′
+    pub reported : {f′ r′ : List ℕ} → f′ ≡ startsWith (filledOf s) f → r′ ≡ startsWith (reportBytes (reportOf s)) r → length s ≤ length f → diagnosticSize * total c ≤ length r
+        → Answered s f r (Checked (c .errors) (c .warnings)) f′ r′
     unfolding answer
-    reported k l ef er =
+    reported ef er k l =
         let g : reportSize (reportOf s) ≤ length r = rw size-is at l in
         rw (ef, er, t .errors, t .warnings)
-        (checked-so s f r (errors (reportOf s)) (warnings (reportOf s)) (rw (h, le-ltb (length f) (length s) k, le-ltb (length r) (reportSize (reportOf s)) g)))
+        (checked-so s f r (errors (reportOf s)) (warnings (reportOf s)) (rw (h .accepted, le-ltb (length f) (length s) k, le-ltb (length r) (reportSize (reportOf s)) g)))

@@ -1,13 +1,18 @@
 -- What the steps of a checking call give.
 -- Assumes nothing.
-use Prim.Native.Nat.{ℕ}
+use Prim.Native.Nat.{ℕ, _≤_}
 use mathlib.Core.Path.{_≡_}
 use mathlib.Core.List.{List}
 use lib.ListN.{length}
+use Rattle.oce_model.specs.Model.{modelOf}
 use Rattle.oce_diag.specs.Diagnostics.{errors, warnings}
+use Rattle.oce_diag.specs.Putting.{total}
 use Rattle.oce_diag.specs.declared.Counted.{Counted}
+use Rattle.unify.specs.Unify.{filledSlots}
+use Rattle.slots.specs.Columns.{slotCount, view, Room}
 use Rattle.outcome.specs.Answer.{reportOf, answer, filledAfter, reportAfter}
 use Rattle.outcome.specs.declared.Answer.{Answer}
+use Rattle.rules.specs.Ran.{mostDiagnostics}
 
 -- the answer and both buffers after a call: s is the image, f and r the buffers at entry, f′ and r′ at exit
 pub record Answered (s f r : List ℕ) (a : Answer) (f′ r′ : List ℕ) : Type 0 where
@@ -15,7 +20,10 @@ pub record Answered (s f r : List ℕ) (a : Answer) (f′ r′ : List ℕ) : Typ
   pub filled : f′ ≡ filledAfter s f r
   pub report : r′ ≡ reportAfter s f r
 
--- the diagnostics of an image, counted
-pub record Tallied (s : List ℕ) (c : Counted) : Type 0 where
+-- the diagnostics of an image, counted, and its slots after all roots, in columns
+pub record Tallied (s ks ms ns : List ℕ) (c : Counted) : Type 0 where
   pub errors : c .errors ≡ errors (reportOf s)
   pub warnings : c .warnings ≡ warnings (reportOf s)
+  pub few : total c ≤ mostDiagnostics
+  pub slots : view (slotCount (modelOf s)) ks ms ns ≡ filledSlots (modelOf s)
+  pub room : Room (slotCount (modelOf s)) ks ms ns
