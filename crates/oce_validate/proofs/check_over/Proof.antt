@@ -16,9 +16,7 @@ check-over-spec =
     (λ c. search needs)
     (λ c. search needs)
     (λ c. search needs)
-    (λ c.
-    let p = c .before .before .before .before .before .before .before .before .before .before .before .before .before .before .before .before .before .before .before .before .pre in
-    short-report _ _ (p .0 .laid) (c .before .before .before .before .before .before .before .before .tally .ensures) (p .1) (search needs))
+    (λ c. search (short-report, needs))
     (λ c κs.
     let p = c .before .before .before .before .before .before .before .before .before .before .before .before .before .before .before .before .before .before .before .before .before .before .before .before .before .pre in
     let t = c .before .before .before .before .before .before .before .before .before .before .before .before .before .tally .ensures in
