@@ -1,41 +1,35 @@
 -- Each way that a checking call can end gives what the definitions say.
 -- Assumes nothing.
 use Prim.Native.Nat.{ℕ, _+_, _*_, _<_, _≤_}
-use native.Mathlib.Nat.{zero-add}
 use native.Mathlib.Omega.{arith}
 use mathlib.Core.Path.{_≡_, refl, sym, ap, _∙_}
-use mathlib.Core.Bool.{true, false, cond}
 use mathlib.Core.List.{List, [], _∷_}
 use mathlib.Core.Option.{Option, none, some}
-use lib.ListN.{length, replicate, length-replicate}
-use lib.Dec.{ltb}
+use lib.ListN.{length}
 use mir.Syntax.{w32, w64}
 use mir.Val.{Fits}
 use borrow.Author.Tests.{lt-ltb, le-ltb}
 use Rattle.base.specs.Buffers.{startsWith}
-use Rattle.base.proofs.Buffers.{startsWith-length}
-use Rattle.oce_model.specs.Format.{textTag, blockTag, most, longestImage, mostConnectors, mostBoundaryOutputs}
+use Rattle.oce_model.specs.Format.{textTag, blockTag, mostConnectors, mostBoundaryOutputs}
 use Rattle.oce_model.specs.Model.{modelOf}
 use Rattle.oce_model.specs.Refusals.{Refusal, refusal}
 use Rattle.oce_model.proofs.Accepted.{accepted}
-use Rattle.oce_diag.specs.Diagnostics.{hasError, errors, warnings}
+use Rattle.oce_diag.specs.Diagnostics.{errors, warnings}
 use Rattle.oce_diag.specs.Encoding.{diagnosticSize, reportBytes}
 use Rattle.oce_diag.specs.Putting.{total}
 use Rattle.oce_diag.specs.declared.Counted.{Counted}
 use Rattle.oce_diag.specs.declared.Diagnostic.{Diagnostic}
 use Rattle.oce_diag.proofs.Diagnostics.{errors-warnings, no-errors, some-error}
 use Rattle.oce_diag.proofs.Putting.{put-errors, put-warnings, put-room}
-use Rattle.accept.specs.Layout.{Laid, Tabled, acceptance, accepts, ifAccepted, offsetsOf, tableAfter}
+use Rattle.accept.specs.Layout.{Laid, Tabled, acceptance, accepts}
 use Rattle.accept.specs.declared.Layout.{Layout}
-use Rattle.accept.proofs.Rooms.{accepted-room}
 use Rattle.accept.specs.declared.Acceptance.{Acceptance}
 use Rattle.accept.specs.declared.Acceptance.the-variants as accepting
 use Rattle.records.proofs.Laws.{connectors-counted, connectors-few, outputs-counted, boundary-outputs-few}
 use Rattle.slots.specs.Columns.{width, slotCount, view, Room}
 use Rattle.outcome.specs.Filled.{withSlots, filledOf}
 use Rattle.outcome.specs.Report.{finalSlots}
-use Rattle.outcome.specs.Answer.{reportOf, reportSize, answerFor, answer, ifChecked, filledAfter, reportAfter}
-use Rattle.outcome.specs.declared.Answer.{Answer}
+use Rattle.outcome.specs.Answer.{reportOf, reportSize, answerFor, answer, filledAfter, reportAfter}
 use Rattle.outcome.specs.declared.Answer.the-variants.{Refused, Checked}
 use Rattle.rules.specs.Ran.{Ready, Ran}
 use Rattle.moved.specs.Moved.{Bytes}
@@ -99,23 +93,6 @@ pub filled-written : (f : List ℕ) {s ks ms ns f′ : List ℕ} {c : Counted} {
 filled-written f {s} {ks} {ms} {ns} {c = c} n t h e k z =
     let none : c .errors ≡ 0 = omega arith in
     e ∙ ap (λ x. startsWith x f) (ap (λ n. withSlots s (view n ks ms ns)) (slots-counted h k) ∙ final t none)
-
--- ---- tables
-
--- a table with room for the most records of a tag stays as long as it is
-pub table-long : (t : ℕ) (s : List ℕ) {table : List ℕ} → table ≡ tableAfter t s (replicate (most t) 0) → length table ≡ most t
-unfolding tableAfter acceptance
-table-long t s q = ap length q ∙ arm (refusal s) refl ∙ room
-  where
-    zeros : List ℕ
-    zeros = replicate (most t) 0
-
-    room : length zeros ≡ most t
-    room = length-replicate (most t) 0
-
-    arm : (o : Option Refusal) → refusal s ≡ o → length (ifAccepted (accepts s o) (startsWith (offsetsOf t s) zeros) zeros) ≡ length zeros
-    arm none e = startsWith-length (offsetsOf t s) zeros (accepted-room t s e (omega (arith, room)))
-    arm (some x) e = refl
 
 -- ---- columns
 

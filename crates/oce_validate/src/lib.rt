@@ -156,8 +156,8 @@ fn check_over<'a>(
 fn check_accepted<'a>(
     image: &'a [u8],
     layout: Layout,
-    texts: &'a [usize],
-    blocks: &[usize],
+    texts: &'a [usize; MOST_TEXTS],
+    blocks: &[usize; MOST_BLOCKS],
     filled: &mut [u8],
     report: &mut [u8],
 ) -> Answer
