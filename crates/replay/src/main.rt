@@ -1,11 +1,9 @@
-// Replays the oracle's stored answers (docs/STORED_ANSWERS.md): reads each image of the files that its
-// arguments name, and says how many are refused, and which of them not as the oracle refuses them.
-use accept::Acceptance;
-use accept::accept;
-use base::part_of;
+// Replays the oracle's stored answers (docs/STORED_ANSWERS.md): checks each image of the files that its
+// arguments name, and says how many are refused, and which of them not as the oracle has it: by refusal,
+// counts, a diagnostic, or the filled image.
+use agreement::Agreement;
+use agreement::compare;
 use libc::STDOUT_FILENO;
-use oce_model::MOST_BLOCKS;
-use oce_model::MOST_TEXTS;
 use std::num::wrapping_add_u64;
 use stored::FIRST_RECORD;
 use stored::Reading;
@@ -24,12 +22,6 @@ struct Sum {
     pub differ: u64,
     // Files that couldn't be gone through.
     pub failed: u64,
-}
-
-// The refusal of an image, both 0 if it is accepted.
-struct Refusal {
-    pub number: usize,
-    pub offset: usize,
 }
 
 // Where the next record begins, and what the records before it gave.
@@ -66,21 +58,47 @@ fn print_sum(sum: Sum) {
     print(b"\n");
 }
 
-fn print_refusal(r: Refusal) {
-    print_number(r.number as u64);
+fn print_refusal(what: &[u8], number: usize, offset: usize) {
+    print(what);
+    print_number(number as u64);
     print(b" at ");
-    print_number(r.offset as u64);
+    print_number(offset as u64);
 }
 
-fn print_difference(name: &[u8], k: usize, oracle: Refusal, ours: Refusal) {
+fn print_record(name: &[u8], k: usize) {
     print(name);
     print(b" record ");
     print_number(k as u64);
-    print(b" oracle ");
-    print_refusal(oracle);
-    print(b" here ");
-    print_refusal(ours);
+}
+
+// Says how record k of a file differs, and gives how many differ: 1 or 0.
+fn print_difference(name: &[u8], k: usize, r: Record, found: Agreement) -> u64 {
+    match found {
+        Agreement::Same => {
+            return 0;
+        }
+        Agreement::Refusal { number, at } => {
+            let answer = r.answer;
+            print_record(name, k);
+            print_refusal(b" oracle ", answer.number, answer.offset);
+            print_refusal(b" here ", number as usize, at as usize);
+        }
+        Agreement::Counts => {
+            print_record(name, k);
+            print(b" errors and warnings differ");
+        }
+        Agreement::Diagnostic(n) => {
+            print_record(name, k);
+            print(b" differs from diagnostic ");
+            print_number(n as u64);
+        }
+        Agreement::Filled => {
+            print_record(name, k);
+            print(b" filled image differs");
+        }
+    }
     print(b"\n");
+    1
 }
 
 // ---- sums
@@ -118,35 +136,9 @@ fn fail(name: &[u8], why: &[u8]) -> Sum {
 
 // ---- one image
 
-fn refusal_of(image: &[u8]) -> Refusal {
-    let mut texts = [0usize; MOST_TEXTS];
-    let mut blocks = [0usize; MOST_BLOCKS];
-    let acceptance = accept(image, &mut texts, &mut blocks);
-    match acceptance {
-        Acceptance::Refused { number, at } => Refusal {
-            number: number as usize,
-            offset: at as usize,
-        },
-        Acceptance::Accepted(_) => Refusal {
-            number: 0,
-            offset: 0,
-        },
-    }
-}
-
-// 1 if two refusals differ, else 0.
-fn differ(a: Refusal, b: Refusal) -> u64 {
-    if a.number != b.number {
-        return 1;
-    }
-    if a.offset != b.offset {
-        return 1;
-    }
-    0
-}
-
-fn is_refused(r: Refusal) -> u64 {
-    if r.number == 0 {
+fn is_refused(r: Record) -> u64 {
+    let answer = r.answer;
+    if answer.number == 0 {
         return 0;
     }
     1
@@ -154,20 +146,11 @@ fn is_refused(r: Refusal) -> u64 {
 
 // Record k of a file.
 fn replay_record(name: &[u8], file: &[u8], k: usize, r: Record) -> Sum {
-    let ours = refusal_of(part_of(file, r.image, r.len));
-    let answer = r.answer;
-    let oracle = Refusal {
-        number: answer.number,
-        offset: answer.offset,
-    };
-    let d = differ(oracle, ours);
-    if d > 0 {
-        print_difference(name, k, oracle, ours);
-    }
+    let found = compare(file, r);
     Sum {
         images: 1,
-        refused: is_refused(ours),
-        differ: d,
+        refused: is_refused(r),
+        differ: print_difference(name, k, r, found),
         failed: 0,
     }
 }

@@ -1,23 +1,26 @@
 -- Where the texts of an accepted image stand, by the table of their offsets.
 -- Assumes nothing.
 use Prim.Native.Nat.{ℕ, zero, suc, _+_, _<_, _≤_}
+use native.Mathlib.Decide.{decLt}
 use native.Mathlib.Omega.{arith}
 use mathlib.Core.Path.{_≡_, sym, ap, _∙_}
 use mathlib.Core.Logic.{_⊎_, inl, inr}
 use mathlib.Core.Bool.{Bool, true, false, cond}
-use mathlib.Core.List.{List, [], _∷_, List·Memᴰ, List·Memᴰ·not-nil, List·Memᴰ·cases-cons}
+use mathlib.Core.List.{List, [], _∷_, map, List·Memᴰ, List·Memᴰ·not-nil, List·Memᴰ·cases-cons}
 use lib.Dec.{leb}
-use lib.ListN.{length, getD, take, drop, length-map, length-append, List·getD-append, List·getD-eq-default}
+use borrow.Author.Tests.{ltb-false}
+use lib.ListN.{length, getD, take, drop, length-map, length-take, length-append, List·getD-append, List·getD-eq-default}
 use Rattle.base.specs.Buffers.{startsWith}
 use Rattle.base.proofs.Members.{getD-map}
 use Rattle.numbers.specs.Bytes.{byte, le16}
-use Rattle.oce_model.specs.Format.{leadingBytes, longestImage, textTag}
+use Rattle.oce_model.specs.Format.{leadingBytes, longestImage, longestText, textTag}
 use Rattle.oce_model.specs.Image.{fieldAt, fieldEnd, fields, fieldsFrom, ofTag, ordOf}
 use Rattle.oce_model.specs.declared.Field.{Field}
 use Rattle.oce_model.specs.Texts.{textOf}
 use Rattle.oce_model.specs.Model.{modelOf, text}
+use Rattle.oce_model.specs.Refusals.{badLength}
 use Rattle.oce_model.proofs.Accepted.{accepted}
-use Rattle.oce_model.proofs.Fields.{nth, nth-mem}
+use Rattle.oce_model.proofs.Fields.{nth, nth-mem, nth-tag, none-mem}
 use Rattle.oce_model.proofs.Places.{field-end}
 use Rattle.accept.specs.Layout.{Laid, Tabled, sectionOf, layoutOf, offsetsOf}
 use Rattle.accept.specs.declared.Layout.{Layout}
@@ -91,3 +94,21 @@ module _ {s : List ℕ} {l : Layout} (h : Laid s l) {texts : List ℕ} (g : Tabl
         let a : at ≡ nth textTag s i .at = e ∙ stands in
         let z : n ≡ nth textTag s i .len = p ∙ rw a (sym (field-len s (nth textTag s i) (nth-mem textTag s i many))) in
         q ∙ rw (z, a) (sym (getD-map (textOf s) (ofTag textTag (fields s)) i (fieldAt s 0 0 0) [] many))
+
+-- no text has more than 255 bytes
+pub text-short : {s : List ℕ} {l : Layout} → Laid s l → (i : ℕ) → length (text (modelOf s) i) ≤ longestText
+unfolding text modelOf textOf badLength
+text-short {s} {l} h i = arm (decLt i (length fs))
+  where
+    fs : List Field
+    fs = ofTag textTag (fields s)
+
+    arm : Dec (i < length fs) → length (text (modelOf s) i) ≤ longestText
+    arm (yes k) =
+        let f = nth textTag s i in
+        let g = none-mem (badLength s) (fields s) (accepted s (h .accepted) .lengths) f (nth-mem textTag s i k) in
+        let n : f .len ≤ longestText = ltb-false longestText (f .len) (rw (nth-tag textTag s i k) at g) in
+        rw (getD-map (textOf s) fs i (fieldAt s 0 0 0) [] k) (rw length-take (omega arith))
+    arm (no k) =
+        let past : length (map (textOf s) fs) ≤ i = rw length-map (omega arith) in
+        rw (List·getD-eq-default (map (textOf s) fs) [] past) (omega arith)

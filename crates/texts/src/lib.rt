@@ -100,7 +100,7 @@ fn text_offset(image: &[u8], layout: Layout, texts: &[usize], i: usize) -> usize
 }
 
 // The bytes of text i, none where there is no such text.
-pub fn text_of<'a>(image: &'a [u8], layout: Layout, texts: &'a [usize], i: usize) -> &'a [u8]
+pub fn text_of<'a>(image: &'a [u8], layout: Layout, texts: &[usize], i: usize) -> &'a [u8]
     requires { ⌜ Laid (now image) layout × Tabled textTag (now image) (now texts) ⌝ }
     ensures { λ r. ⌜ now r ≡ text (modelOf (now (image .entry))) i ⌝ }
 {

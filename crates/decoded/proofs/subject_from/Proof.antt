@@ -1,0 +1,17 @@
+-- `decoded::subject_from` meets its contract: by the kind.
+-- Assumes nothing.
+use borrow.Author.Needs.{needs}
+use borrow.Author.Tests.{eq-eqb, ne-eqb}
+use Rattle.decoded.specs.Decoded.{subjectFrom}
+use Rattle.decoded.proofs.subject_from.Statement.{statement}
+use Rattle.decoded.proofs.subject_from.Tie as tie
+
+pub subject-from-spec : {M : Type 1} → statement M
+unfolding subjectFrom
+subject-from-spec =
+    tie.close
+    (tie.spec
+    (λ c. search (eq-eqb, needs))
+    (λ c. search (eq-eqb, ne-eqb, needs))
+    (λ c. search (eq-eqb, ne-eqb, needs))
+    (λ c. search (ne-eqb, needs)))

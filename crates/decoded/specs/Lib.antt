@@ -1,0 +1,3 @@
+-- The diagnostics that a report's bytes stand for.
+pub mod Decoded
+pub mod Computed

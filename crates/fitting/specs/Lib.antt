@@ -1,0 +1,2 @@
+-- A model whose numbers have four bytes.
+pub mod Bounded

@@ -1,0 +1,1 @@
+// The numbers of every diagnostic have room in its bytes. No code.

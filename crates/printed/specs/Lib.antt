@@ -1,0 +1,5 @@
+-- The printed report, and its pieces.
+pub mod Printed
+pub mod Pieces
+pub mod Computed
+pub mod Examples

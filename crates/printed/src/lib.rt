@@ -1,0 +1,193 @@
+// The lines of the printed report, put into a lent buffer.
+use accept::Layout;
+use decimal::put_bytes;
+use decimal::put_labelled;
+use decimal::put_labelled_byte;
+use decoded::diagnostic_at;
+use oce_diag::DiagCode;
+use oce_diag::Diagnostic;
+use oce_diag::Severity;
+use oce_diag::Subject;
+use outcome::Answer;
+use subject::BLOCK_SUBJECT;
+use subject::CONNECTOR_SUBJECT;
+use subject::put_label;
+use texts::text_of;
+ghost use mathlib.Core.Path.{_≡_};
+ghost use Prim.Native.Nat.{_+_, _<_, _≤_};
+ghost use lib.ListN.{length};
+ghost use Rattle.base.specs.Buffers.{startsWith};
+ghost use Rattle.oce_model.specs.Format.{textTag, longestText};
+ghost use Rattle.accept.specs.Layout.{Laid, Tabled};
+ghost use Rattle.decimal.specs.Appending.{Appended};
+ghost use Rattle.outcome.specs.declared.Answer.the-variants.{Refused, Checked};
+ghost use Rattle.printed.specs.Printed.{severityName, codeName, names, ruleAndDetail, subjectField, lineEnd, line, firstLine, longestSeverity, longestCode, longestNames, longestRule, longestEnd, longestLine, longestFirstLine};
+ghost use Rattle.printed.specs.Pieces.{Pieced};
+
+// The next diagnostic to print, and how many bytes of lines stand in the buffer.
+pub struct Piece {
+    pub next: usize,
+    pub length: usize,
+}
+
+// No line of a diagnostic is longer.
+pub const LONGEST_LINE: usize = 305;
+
+// ---- a diagnostic's fields, each put into out from index at on; the index behind it is given
+
+fn put_severity(out: &mut [u8], at: usize, severity: Severity) -> usize
+    requires { ⌜ at + longestSeverity ≤ length (now out) ⌝ }
+    ensures { λ r. ⌜ Appended (now (out .entry)) at (severityName severity) (now (out .exit)) r × (r ≤ at + longestSeverity) ⌝ }
+{
+    match severity {
+        Severity::Error => put_bytes(out, at, b"error"),
+        Severity::Warning => put_bytes(out, at, b"warning"),
+    }
+}
+
+fn put_code(out: &mut [u8], at: usize, code: DiagCode) -> usize
+    requires { ⌜ at + longestCode ≤ length (now out) ⌝ }
+    ensures { λ r. ⌜ Appended (now (out .entry)) at (codeName code) (now (out .exit)) r × (r ≤ at + longestCode) ⌝ }
+{
+    match code {
+        DiagCode::MalformedDocument => put_bytes(out, at, b"MalformedDocument"),
+        DiagCode::DirectionMismatch => put_bytes(out, at, b"DirectionMismatch"),
+        DiagCode::SingleAssignment => put_bytes(out, at, b"SingleAssignment"),
+        DiagCode::TypeMismatch => put_bytes(out, at, b"TypeMismatch"),
+        DiagCode::UnitQuantityMismatch => put_bytes(out, at, b"UnitQuantityMismatch"),
+        DiagCode::BoundMismatch => put_bytes(out, at, b"BoundMismatch"),
+        DiagCode::CrossedBounds => put_bytes(out, at, b"CrossedBounds"),
+        DiagCode::DisplayUnitDivergence => put_bytes(out, at, b"DisplayUnitDivergence"),
+    }
+}
+
+fn put_names(out: &mut [u8], at: usize, severity: Severity, code: DiagCode) -> usize
+    requires { ⌜ at + longestNames ≤ length (now out) ⌝ }
+    ensures { λ r. ⌜ Appended (now (out .entry)) at (names severity code) (now (out .exit)) r × (r ≤ at + longestNames) ⌝ }
+{
+    let k = put_severity(out, at, severity);
+    let k = put_bytes(out, k, b" ");
+    put_code(out, k, code)
+}
+
+fn put_rule(out: &mut [u8], at: usize, rule: u8, detail: u8) -> usize
+    requires { ⌜ at + longestRule ≤ length (now out) ⌝ }
+    ensures { λ r. ⌜ Appended (now (out .entry)) at (ruleAndDetail rule detail) (now (out .exit)) r × (r ≤ at + longestRule) ⌝ }
+{
+    let k = put_labelled_byte(out, at, b" ", rule);
+    put_labelled_byte(out, k, b".", detail)
+}
+
+fn put_subject(
+    image: &[u8],
+    layout: Layout,
+    texts: &[usize],
+    out: &mut [u8],
+    at: usize,
+    subject: Subject,
+) -> usize
+    requires { ⌜ Laid (now image) layout × Tabled textTag (now image) (now texts) × (at + longestText ≤ length (now out)) ⌝ }
+    ensures { λ r. ⌜ Appended (now (out .entry)) at (subjectField (now (image .entry)) subject) (now (out .exit)) r × (r ≤ at + longestText) ⌝ }
+{
+    match subject {
+        Subject::Nothing => put_bytes(out, at, b"-"),
+        Subject::Text(t) => put_bytes(out, at, text_of(image, layout, texts, t as usize)),
+        Subject::Connector(i) => put_label(out, at, CONNECTOR_SUBJECT, i),
+        Subject::Block(i) => put_label(out, at, BLOCK_SUBJECT, i),
+    }
+}
+
+fn put_end(
+    image: &[u8],
+    layout: Layout,
+    texts: &[usize],
+    out: &mut [u8],
+    at: usize,
+    subject: Subject,
+) -> usize
+    requires { ⌜ Laid (now image) layout × Tabled textTag (now image) (now texts) × (at + longestEnd ≤ length (now out)) ⌝ }
+    ensures { λ r. ⌜ Appended (now (out .entry)) at (lineEnd (now (image .entry)) subject) (now (out .exit)) r × (r ≤ at + longestEnd) ⌝ }
+{
+    let k = put_bytes(out, at, b" ");
+    let end = put_subject(image, layout, texts, out, k, subject);
+    put_bytes(out, end, b"\n")
+}
+
+// ---- lines
+
+// The line of a diagnostic.
+fn put_line(
+    image: &[u8],
+    layout: Layout,
+    texts: &[usize],
+    out: &mut [u8],
+    at: usize,
+    d: Diagnostic,
+) -> usize
+    requires { ⌜ Laid (now image) layout × Tabled textTag (now image) (now texts) × (at + longestLine ≤ length (now out)) ⌝ }
+    ensures { λ r. ⌜ Appended (now (out .entry)) at (line (now (image .entry)) d) (now (out .exit)) r ⌝ }
+{
+    let severity = d.severity;
+    let code = d.code;
+    let subject = d.subject;
+    let k = put_names(out, at, severity, code);
+    let k = put_rule(out, k, d.rule, d.detail);
+    let k = put_labelled(out, k, b" ", d.place);
+    put_end(image, layout, texts, out, k, subject)
+}
+
+fn put_counts(out: &mut [u8], errors: u32, warnings: u32) -> usize
+    requires { ⌜ longestFirstLine ≤ length (now out) ⌝ }
+    ensures { λ r. ⌜ Appended (now (out .entry)) 0 (firstLine (Checked errors warnings)) (now (out .exit)) r ⌝ }
+{
+    let k = put_labelled(out, 0, b"errors ", errors);
+    let k = put_labelled(out, k, b" warnings ", warnings);
+    put_bytes(out, k, b"\n")
+}
+
+fn put_refusal(out: &mut [u8], number: u32, at: u32) -> usize
+    requires { ⌜ longestFirstLine ≤ length (now out) ⌝ }
+    ensures { λ r. ⌜ Appended (now (out .entry)) 0 (firstLine (Refused number at)) (now (out .exit)) r ⌝ }
+{
+    let k = put_labelled(out, 0, b"refused ", number);
+    let k = put_labelled(out, k, b" at ", at);
+    put_bytes(out, k, b"\n")
+}
+
+// The first line, at the start of out: the counts, or the refusal. Gives its length.
+pub fn first_line(answer: Answer, out: &mut [u8]) -> usize
+    requires { ⌜ longestFirstLine ≤ length (now out) ⌝ }
+    ensures { λ r. ⌜ r ≡ length (firstLine answer) ⌝ }
+    ensures { λ _. ⌜ now (out .exit) ≡ startsWith (firstLine answer) (now (out .entry)) ⌝ }
+{
+    match answer {
+        Answer::Checked { errors, warnings } => put_counts(out, errors, warnings),
+        Answer::Refused { number, at } => put_refusal(out, number, at),
+    }
+}
+
+// The lines of a report's diagnostics, from the one with number `from` on and as long as the longest line
+// has room: at the start of out.
+pub fn put_lines(
+    image: &[u8],
+    layout: Layout,
+    texts: &[usize],
+    report: &[u8],
+    from: usize,
+    count: usize,
+    out: &mut [u8],
+) -> Piece
+    requires { ⌜ Laid (now image) layout × Tabled textTag (now image) (now texts) × (from ≤ count) × (count < 4294967296) ⌝ }
+    ensures { λ r. ⌜ Pieced (now (image .entry)) (now (report .entry)) from count (now (out .entry)) (now (out .exit)) r ⌝ }
+{
+    let mut i = from;
+    let mut k = 0;
+    while i < count {
+        if out.len() - k < LONGEST_LINE {
+            return Piece { next: i, length: k };
+        }
+        k = put_line(image, layout, texts, out, k, diagnostic_at(report, i));
+        i += 1;
+    }
+    Piece { next: i, length: k }
+}
