@@ -33,6 +33,9 @@ pub struct Piece {
 // No line of a diagnostic is longer.
 pub const LONGEST_LINE: usize = 305;
 
+// No first line is longer.
+pub const LONGEST_FIRST_LINE: usize = 38;
+
 // ---- a diagnostic's fields, each put into out from index at on; the index behind it is given
 
 fn put_severity(out: &mut [u8], at: usize, severity: Severity) -> usize

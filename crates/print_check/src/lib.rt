@@ -1,0 +1,139 @@
+// A model image checked, and its report printed in large pieces.
+use accept::Acceptance;
+use accept::Layout;
+use accept::accept;
+use base::part_of;
+use oce_model::MOST_BLOCKS;
+use oce_model::MOST_TEXTS;
+use oce_validate::check;
+use outcome::Answer;
+use printed::LONGEST_FIRST_LINE;
+use printed::first_line;
+use printed::put_lines;
+ghost use Prim.Native.Nat.{_<_};
+ghost use Rattle.oce_model.specs.Format.{textTag};
+ghost use Rattle.accept.specs.Layout.{Laid, Tabled};
+
+// The bytes of a piece.
+const PIECE: usize = 65536;
+
+// The bytes that are lent for a report.
+const LONGEST_REPORT: usize = 65535;
+
+// Prints the lines of a report's diagnostics, as many as count says, and says whether all were written.
+fn print_lines(
+    fd: i32,
+    image: &[u8],
+    layout: Layout,
+    texts: &[usize; MOST_TEXTS],
+    report: &[u8],
+    count: usize,
+) -> bool
+    requires { ⌜ Laid (now image) layout × Tabled textTag (now image) (now texts) × (count < 4294967296) ⌝ }
+{
+    let mut out = [0u8; PIECE];
+    let mut next = 0;
+    while next < count {
+        let piece = put_lines(image, layout, texts, report, next, count, &mut out);
+        if !io::write_all(fd, part_of(&out, 0, piece.length)) {
+            return false;
+        }
+        next = piece.next;
+    }
+    true
+}
+
+// The same for an image that was accepted. No report that was lent holds as many as it has bytes.
+fn print_report(fd: i32, image: &[u8], report: &[u8], count: usize) -> bool {
+    if LONGEST_REPORT < count {
+        return false;
+    }
+    let mut texts = [0usize; MOST_TEXTS];
+    let mut blocks = [0usize; MOST_BLOCKS];
+    let acceptance = accept(image, &mut texts, &mut blocks);
+    match acceptance {
+        Acceptance::Refused { number: _, at: _ } => false,
+        Acceptance::Accepted(layout) => print_lines(fd, image, layout, &texts, report, count),
+    }
+}
+
+fn print_first(fd: i32, answer: Answer) -> bool {
+    let mut out = [0u8; LONGEST_FIRST_LINE];
+    let n = first_line(answer, &mut out);
+    io::write_all(fd, part_of(&out, 0, n))
+}
+
+// Prints an answer, and the diagnostics of a report that it counts.
+fn print_all(fd: i32, image: &[u8], report: &[u8], answer: Answer) -> bool {
+    if !print_first(fd, answer) {
+        return false;
+    }
+    match answer {
+        Answer::Refused { number: _, at: _ } => true,
+        Answer::Checked { errors, warnings } => print_report(
+            fd,
+            image,
+            report,
+            errors as usize + warnings as usize,
+        ),
+    }
+}
+
+// A check, and whether all of its report was printed.
+pub struct Outcome {
+    pub is_checked: bool,
+    pub is_printed: bool,
+}
+
+fn is_checked(answer: Answer) -> bool {
+    match answer {
+        Answer::Refused { number: _, at: _ } => false,
+        Answer::Checked {
+            errors: _,
+            warnings: _,
+        } => true,
+    }
+}
+
+// Checks an image and prints its report; filled gets the filled image, where there is no refusal.
+pub fn print_check(fd: i32, image: &[u8], filled: &mut [u8]) -> Outcome {
+    let mut report = [0u8; LONGEST_REPORT];
+    let answer = check(image, filled, &mut report);
+    Outcome {
+        is_checked: is_checked(answer),
+        is_printed: print_all(fd, image, &report, answer),
+    }
+}
+
+// What was read of a file, or that nothing could be.
+pub enum Input {
+    Bytes(usize),
+    Unreadable,
+}
+
+fn read_from(fd: i32, image: &mut [u8]) -> Input {
+    let n = io::read_full(fd, image);
+    if n == 0 {
+        let mut more = [0u8; 1];
+        if libc::read(fd, &mut more) < 0 {
+            return Input::Unreadable;
+        }
+    }
+    Input::Bytes(n)
+}
+
+// Reads a file to the start of a buffer, as much of it as that holds; says why if it can't be read.
+pub fn read_image(name: &[u8], image: &mut [u8]) -> Input {
+    let fd = os::open_read(name);
+    if fd < 0 {
+        os::fail(name);
+        return Input::Unreadable;
+    }
+    let input = read_from(fd, image);
+    match input {
+        Input::Bytes(_) => {}
+        Input::Unreadable => os::fail(name),
+    }
+    libc::close(fd);
+    input
+}
