@@ -19,7 +19,7 @@ use Rattle.outcome.specs.Answer.{reportOf, reportSize, answerFor, answer, ifChe
 use Rattle.outcome.specs.declared.Answer.{Answer}
 use Rattle.outcome.specs.declared.Answer.the-variants.{Refused, Checked}
 use Rattle.moved.specs.Moved.{Bytes, Left, Moved}
-use Rattle.moved.proofs.NoError.{no-errors, some-error}
+use Rattle.oce_diag.proofs.Diagnostics.{no-errors, some-error}
 use Rattle.moved.proofs.FilledImage.{filled-length, filled-accepted, filled-undone}
 use Rattle.moved.proofs.Demand.{demand3}
 

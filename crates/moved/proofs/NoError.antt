@@ -4,11 +4,10 @@ use Prim.Native.Nat.{ℕ, zero, suc, _<_}
 use native.Mathlib.Decide.{ℕ-discrete}
 use native.Mathlib.Omega.{arith}
 use mathlib.Core.Path.{_≡_, refl, sym, ap, _∙_}
-use mathlib.Core.Bool.{Bool, true, false, cond, _||_, true≢false}
-use mathlib.Core.List.{List, [], _∷_, _++_}
-use lib.ListN.{length}
-use Rattle.base.specs.Lists.{each, any, keep, only}
-use Rattle.oce_diag.specs.Diagnostics.{diagnostic, error, isError, hasError, errors}
+use mathlib.Core.Bool.{Bool, true, false, true≢false}
+use mathlib.Core.List.{List, _++_}
+use Rattle.base.specs.Lists.{each, any, only}
+use Rattle.oce_diag.specs.Diagnostics.{diagnostic, error, isError, hasError}
 use Rattle.oce_diag.specs.declared.Diagnostic.{Diagnostic}
 use Rattle.oce_diag.specs.declared.DiagCode.{DiagCode}
 use Rattle.oce_diag.specs.declared.Subject.{Subject}
@@ -31,23 +30,3 @@ pub clean-only : (b : Bool) (code : DiagCode) (rule detail : ℕ) (s : Subject) 
 unfolding hasError any diagnostic
 clean-only true c r d s p h = absurd (true≢false h)
 clean-only false c r d s p h = refl
-
--- counted
-
-pub no-errors : (ds : List Diagnostic) → errors ds ≡ 0 → hasError ds ≡ false
-unfolding errors hasError keep any
-no-errors [] h = refl
-no-errors (d ∷ ds) h = arm (isError d) h (no-errors ds)
-  where
-    arm : (b : Bool) → length (cond b (d ∷ keep isError ds) (keep isError ds)) ≡ 0 → (length (keep isError ds) ≡ 0 → hasError ds ≡ false) → (b || hasError ds) ≡ false
-    arm true h ih = absurd (omega arith)
-    arm false h ih = ih h
-
-pub some-error : (ds : List Diagnostic) → 0 < errors ds → hasError ds ≡ true
-unfolding errors hasError keep any
-some-error [] l = absurd (omega arith)
-some-error (d ∷ ds) l = arm (isError d) l (some-error ds)
-  where
-    arm : (b : Bool) → 0 < length (cond b (d ∷ keep isError ds) (keep isError ds)) → (0 < length (keep isError ds) → hasError ds ≡ true) → (b || hasError ds) ≡ true
-    arm true h ih = refl
-    arm false h ih = ih h
