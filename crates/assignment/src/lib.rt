@@ -1,6 +1,6 @@
 // Rule 3, the Rust's `check_single_assignment`: each input is driven by one connection, or is external.
 use accept::Layout;
-use degrees::is_external;
+use externals::is_external;
 use oce_diag::Counted;
 use oce_diag::DiagCode;
 use oce_diag::Subject;
@@ -19,7 +19,8 @@ ghost use Rattle.oce_diag.specs.Putting.{Put, total};
 ghost use Rattle.structural.specs.Degrees.{degree, external};
 ghost use Rattle.structural.specs.Structural.{assignmentFaults, rule3};
 ghost use Rattle.accept.specs.Layout.{Laid};
-ghost use Rattle.degrees.specs.Columns.{Degrees, Listed};
+ghost use Rattle.degrees.specs.Columns.{Degrees};
+ghost use Rattle.externals.specs.Columns.{Listed};
 ghost use Rattle.assignment.specs.PerRecord.{entryOf, undriven, degreeFaults};
 
 // The in-degree under an id: 0 where that is not the number of one of n connectors.
@@ -67,7 +68,7 @@ fn degree_faults(
     image: &[u8],
     layout: Layout,
     ds: &[u32],
-    xs: &[u8],
+    xs: &[u32],
     i: ConnectorId,
     id: ConnectorId,
     subject: Subject,
@@ -87,7 +88,7 @@ pub fn assignment_faults(
     image: &[u8],
     layout: Layout,
     ds: &[u32],
-    xs: &[u8],
+    xs: &[u32],
     i: ConnectorId,
     report: &mut [u8],
     counted: Counted,
@@ -109,7 +110,7 @@ pub fn check_single_assignment(
     image: &[u8],
     layout: Layout,
     ds: &[u32],
-    xs: &[u8],
+    xs: &[u32],
     report: &mut [u8],
     counted: Counted,
 ) -> Counted

@@ -30,7 +30,7 @@ ghost use Rattle.oce_model.specs.Format.{textTag, mostConnectors, mostBoundaryI
 ghost use Rattle.oce_model.specs.Model.{modelOf};
 ghost use Rattle.oce_diag.specs.Putting.{total, Put};
 ghost use Rattle.accept.specs.Layout.{Laid, Tabled};
-ghost use Rattle.degrees.specs.Columns.{Listed};
+ghost use Rattle.externals.specs.Columns.{Listed};
 ghost use Rattle.sorting.specs.Sort.{sorted};
 ghost use Rattle.crossed_bounds.specs.CrossedBounds.{memberIri, memberKey, groups, groupsFaults};
 ghost use Rattle.members.specs.Members.{memberCount, isMember, joining};
@@ -151,7 +151,7 @@ fn step<'a>(
     image: &'a [u8],
     layout: Layout,
     texts: &'a [usize],
-    externals: &'a [u8],
+    externals: &'a [u32],
     p: Pass,
     x: usize,
     report: &mut [u8],
@@ -176,7 +176,7 @@ fn report_groups<'a>(
     image: &'a [u8],
     layout: Layout,
     texts: &'a [usize],
-    externals: &'a [u8],
+    externals: &'a [u32],
     records: &[usize],
     report: &mut [u8],
     counted: Counted,
@@ -204,7 +204,7 @@ fn report_members<'a>(
     image: &'a [u8],
     layout: Layout,
     texts: &'a [usize],
-    externals: &'a [u8],
+    externals: &'a [u32],
     iri: &'a [u16],
     records: &mut [usize],
     scratch: &mut [usize],
@@ -223,7 +223,7 @@ fn report_listed<'a>(
     image: &'a [u8],
     layout: Layout,
     texts: &'a [usize],
-    externals: &'a [u8],
+    externals: &'a [u32],
     iri: &mut [u16],
     records: &mut [usize],
     scratch: &mut [usize],
@@ -252,7 +252,7 @@ fn report_collected<'a>(
     image: &'a [u8],
     layout: Layout,
     texts: &'a [usize],
-    externals: &'a [u8],
+    externals: &'a [u32],
     records: &mut [usize],
     report: &mut [u8],
     counted: Counted,
@@ -282,7 +282,7 @@ pub fn combined_domains<'a>(
     image: &'a [u8],
     layout: Layout,
     texts: &'a [usize],
-    externals: &'a [u8],
+    externals: &'a [u32],
     report: &mut [u8],
     counted: Counted,
 ) -> Counted

@@ -23,7 +23,7 @@ ghost use Rattle.oce_model.specs.Attributes.{attrsAt};
 ghost use Rattle.oce_model.specs.Model.{modelOf};
 ghost use Rattle.oce_diag.specs.Putting.{total, Put};
 ghost use Rattle.accept.specs.Layout.{Laid, Tabled};
-ghost use Rattle.degrees.specs.Columns.{Listed};
+ghost use Rattle.externals.specs.Columns.{Listed};
 ghost use Rattle.crossed_bounds.specs.CrossedBounds.{crossedFaults, rule5};
 ghost use Rattle.crossed.specs.Details.{connectorCrossed, inputCrossed, outputCrossed, mostCrossed};
 
@@ -152,7 +152,7 @@ pub fn crossed_bounds<'a>(
     image: &'a [u8],
     layout: Layout,
     texts: &'a [usize],
-    externals: &'a [u8],
+    externals: &'a [u32],
     report: &mut [u8],
     counted: Counted,
 ) -> Counted

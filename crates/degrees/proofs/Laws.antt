@@ -1,28 +1,26 @@
--- Laws of the columns of in-degrees and of external inputs, one connection or external input more at a time.
+-- Laws of the column of in-degrees, one connection more at a time.
 -- Assumes nothing.
-use Prim.Native.Nat.{ℕ, zero, suc, _+_, _*_, _<_, _≤_}
+use Prim.Native.Nat.{ℕ, _+_, _*_, _<_, _≤_}
 use native.Mathlib.Decide.{ℕ-discrete}
-use native.Mathlib.Numerals.{add-one}
 use native.Mathlib.Omega.{arith}
 use mathlib.Core.Path.{_≡_, refl, sym, ap, _∙_}
-use mathlib.Core.Bool.{Bool, true, false, cond, _||_}
-use mathlib.Core.List.{List, [], _∷_}
+use mathlib.Core.List.{List}
 use lib.Dec.{eqb}
 use lib.ListN.{length, getD, set, length-set}
 use lib.Seq.{getD-set-same, getD-set-other}
-use borrow.Author.Tests.{eq-eqb, ne-eqb, eqb-true, lt-ltb}
+use borrow.Author.Tests.{eq-eqb, ne-eqb, lt-ltb}
 use mir.Syntax.{w32}
 use mir.Val.{Fits}
-use Rattle.base.specs.Lists.{tally, below, any}
-use Rattle.base.proofs.Lists.{tally-yes, tally-no, tally-le, below-next, below-some}
+use Rattle.base.specs.Lists.{tally}
+use Rattle.base.proofs.Lists.{tally-yes, tally-no, tally-le}
 use Rattle.oce_model.specs.Format.{longestImage, connectionSize}
 use Rattle.oce_model.specs.Model.{Model, modelOf, connection, connectorCount, connectionCount}
 use Rattle.oce_model.specs.declared.Connection.{Connection}
-use Rattle.structural.specs.Degrees.{degree, external}
+use Rattle.structural.specs.Degrees.{degree}
 use Rattle.accept.specs.Layout.{Laid}
 use Rattle.accept.specs.declared.Layout.{Layout}
-use Rattle.records.proofs.Laws.{connection-near, connectors-counted, connections-counted, externals-counted}
-use Rattle.degrees.specs.Columns.{Clears, Counts, Degrees, listedIds, Lists, Listed}
+use Rattle.records.proofs.Laws.{connection-near, connectors-counted, connections-counted}
+use Rattle.degrees.specs.Columns.{Clears, Counts, Degrees}
 
 -- ---- degrees
 
@@ -81,104 +79,6 @@ module _ {s : List ℕ} {l : Layout} (h : Laid s l) where
   counts-all {k} {ds} p a b =
       let e : k ≡ connectionCount (modelOf s) = (let n = connections-counted h in omega arith) in
       record { room = p .room; each = λ i n. p .each i n ∙ rw (e, lt-ltb i (connectorCount (modelOf s)) n) }
-
--- ---- external inputs
-
-or-assoc : (a b c : Bool) → ((a || b) || c) ≡ (a || (b || c))
-or-assoc true b c = refl
-or-assoc false b c = refl
-
-below-shift : (n : ℕ) (f : ℕ → Bool) → below (suc n) f ≡ (f 0 || below n (λ j. f (suc j)))
-unfolding below
-below-shift zero f = swap (f 0)
-  where
-    swap : (b : Bool) → (false || b) ≡ (b || false)
-    swap true = refl
-    swap false = refl
-below-shift (suc n) f = ap (λ b. b || f (suc n)) (below-shift n f) ∙ or-assoc (f 0) (below n (λ j. f (suc j))) (f (suc n))
-
--- a test passes somewhere in a list exactly if it does at some index
-any-below : (p : ℕ → Bool) (xs : List ℕ) → any p xs ≡ below (length xs) (λ j. p (getD xs j 0))
-unfolding any below
-any-below p [] = refl
-any-below p (x ∷ xs) = ap (λ b. p x || b) (any-below p xs) ∙ sym (below-shift (length xs) (λ j. p (getD (x ∷ xs) j 0)))
-
-external-below : (m : Model) (id : ℕ) → external m id ≡ below (length (m .externalInputs)) (λ j. eqb id (getD (m .externalInputs) j 0))
-unfolding external
-external-below m id = any-below (eqb id) (m .externalInputs)
-
--- the first k external inputs hold an id
-abbrev pub among : Model → ℕ → ℕ → Bool
-among m k id = below k (λ j. eqb id (getD (m .externalInputs) j 0))
-
-among-more : (m : Model) (k id : ℕ) → among m (k + 1) id ≡ (among m k id || eqb id (getD (m .externalInputs) k 0))
-among-more m k id = below-next k (λ j. eqb id (getD (m .externalInputs) j 0))
-
-or-true : (b : Bool) → (b || true) ≡ true
-or-true true = refl
-or-true false = refl
-
-or-false : (b : Bool) → (b || false) ≡ b
-or-false true = refl
-or-false false = refl
-
-pub lists-hit : {m : Model} {k : ℕ} {xs : List ℕ} {x : ℕ} → Lists m k xs → x ≡ getD (m .externalInputs) k 0 → x < listedIds → Lists m (k + 1) (set xs x 1)
-lists-hit {m} {k} {xs} {x} h e l = record { room = rw length-set (h .room); each = go }
-  where
-    go : (i : ℕ) → i < listedIds → getD (set xs x 1) i 0 ≡ cond (among m (k + 1) i) 1 0
-    go i n = arm (ℕ-discrete i x)
-      where
-        arm : Dec (i ≡ x) → getD (set xs x 1) i 0 ≡ cond (among m (k + 1) i) 1 0
-        arm (yes q) =
-            let room : x < length xs = (let r = h .room in omega arith) in
-            ap (λ y. getD (set xs x 1) y 0) q ∙ getD-set-same xs x 1 0 room
-            ∙ sym (ap (λ b. cond b 1 0) (among-more m k i ∙ ap (λ b. among m k i || b) (eq-eqb i (getD (m .externalInputs) k 0) (q ∙ e)) ∙ or-true (among m k i)))
-        arm (no q) =
-            getD-set-other xs x i 1 0 q ∙ h .each i n
-            ∙ sym (ap (λ b. cond b 1 0) (among-more m k i ∙ ap (λ b. among m k i || b) (ne-eqb i (getD (m .externalInputs) k 0) (λ z. q (z ∙ sym e))) ∙ or-false (among m k i)))
-
-pub lists-miss : {m : Model} {k : ℕ} {xs : List ℕ} {x : ℕ} → Lists m k xs → x ≡ getD (m .externalInputs) k 0 → listedIds ≤ x → Lists m (k + 1) xs
-lists-miss {m} {k} {xs} {x} h e l = record {
-  room = h .room;
-  each = λ i n. h .each i n ∙ sym (ap (λ b. cond b 1 0) (among-more m k i ∙ ap (λ b. among m k i || b) (ne-eqb i (getD (m .externalInputs) k 0) (λ z. absurd (omega arith))) ∙ or-false (among m k i)));
-}
-
-module _ {s : List ℕ} {l : Layout} (h : Laid s l) where
-  pub lists-all : {k : ℕ} {xs : List ℕ} → Lists (modelOf s) k xs → k ≤ l .externals .count → l .externals .count ≤ k → Listed (modelOf s) xs
-  lists-all {k} {xs} p a b =
-      let e : k ≡ length (modelOf s .externalInputs) = (let n = externals-counted h in omega arith) in
-      record { room = p .room; each = λ i n. p .each i n ∙ ap (λ b. cond b 1 0) (ap (λ j. among (modelOf s) j i) e ∙ sym (external-below (modelOf s) i)) }
-
--- a scan that has found nothing among the first k
-pub record Scans (m : Model) (id k : ℕ) : Type 0 where
-  pub none : among m k id ≡ false
-
-pub scan-start : (m : Model) (id : ℕ) → Scans m id 0
-unfolding below
-scan-start m id = record { none = refl }
-
-pub scan-more : {m : Model} {id k x : ℕ} → Scans m id k → x ≡ getD (m .externalInputs) k 0 → (x ≡ id → ⊥) → Scans m id (k + 1)
-scan-more {m} {id} {k} {x} p e n =
-    record { none = among-more m k id ∙ ap (λ b. b || eqb id (getD (m .externalInputs) k 0)) (p .none) ∙ ne-eqb id (getD (m .externalInputs) k 0) (λ z. n (e ∙ sym z)) }
-
-module _ {s : List ℕ} {l : Layout} (h : Laid s l) where
-  pub scan-found : {id k x : ℕ} → x ≡ getD (modelOf s .externalInputs) k 0 → x ≡ id → k < l .externals .count → true ≡ external (modelOf s) id
-  scan-found {id} {k} e q t =
-      sym (external-below (modelOf s) id
-      ∙ below-some (length (modelOf s .externalInputs)) (λ j. eqb id (getD (modelOf s .externalInputs) j 0)) k (let n = externals-counted h in omega arith) (eq-eqb id (getD (modelOf s .externalInputs) k 0) (sym q ∙ e)))
-
-  pub scan-end : {id k : ℕ} → Scans (modelOf s) id k → k ≤ l .externals .count → l .externals .count ≤ k → false ≡ external (modelOf s) id
-  scan-end {id} {k} p a b =
-      let e : k ≡ length (modelOf s .externalInputs) = (let n = externals-counted h in omega arith) in
-      sym (external-below (modelOf s) id ∙ ap (λ j. among (modelOf s) j id) (sym e) ∙ p .none)
-
--- an entry of the list tells
-pub listed-tells : {m : Model} {xs : List ℕ} (id : ℕ) → Listed m xs → id < listedIds → eqb (getD xs id 0) 1 ≡ external m id
-listed-tells {m} {xs} id h l = ap (λ x. eqb x 1) (h .each id l) ∙ arm (external m id)
-  where
-    arm : (b : Bool) → eqb (cond b 1 0) 1 ≡ b
-    arm true = refl
-    arm false = refl
 
 -- ---- entries set to 0, one after the other
 

@@ -1,2 +1,2 @@
--- In-degrees and external inputs of all connectors, in columns.
+-- In-degrees of all connectors, in a column.
 pub mod Columns

@@ -2,7 +2,7 @@
 // inputs.
 use accept::Layout;
 use crossed_bounds::Range;
-use degrees::is_external;
+use externals::is_external;
 use oce_model::ConnectorId;
 use oce_model::DIR_IN;
 use oce_model::NO_TEXT;
@@ -19,7 +19,7 @@ ghost use Rattle.oce_model.specs.Format.{longestImage, connectorAttrs};
 ghost use Rattle.oce_model.specs.Attributes.{attrsAt};
 ghost use Rattle.oce_model.specs.Model.{modelOf};
 ghost use Rattle.accept.specs.Layout.{Laid};
-ghost use Rattle.degrees.specs.Columns.{Listed};
+ghost use Rattle.externals.specs.Columns.{Listed};
 ghost use Rattle.crossed_bounds.specs.CrossedBounds.{memberIri, memberAttrs, memberExternal};
 ghost use Rattle.members.specs.Members.{memberCount, isMember, memberRange, memberJoins, joining, Continued};
 
@@ -60,7 +60,7 @@ pub fn member_range(image: &[u8], layout: Layout, x: usize) -> Range
 }
 
 // It is a connector whose id is external; externals is the column that `list_externals` fills.
-pub fn member_external(image: &[u8], layout: Layout, externals: &[u8], x: usize) -> bool
+pub fn member_external(image: &[u8], layout: Layout, externals: &[u32], x: usize) -> bool
     requires { ⌜ Laid (now image) layout × Listed (modelOf (now image)) (now externals) ⌝ }
     ensures { λ r. ⌜ r ≡ memberExternal (modelOf (now (image .entry))) x ⌝ }
 {
@@ -133,7 +133,7 @@ pub fn collect(image: &[u8], layout: Layout, count: usize, records: &mut [usize]
 }
 
 // A member is external.
-pub fn some_external(image: &[u8], layout: Layout, externals: &[u8]) -> bool
+pub fn some_external(image: &[u8], layout: Layout, externals: &[u32]) -> bool
     requires { ⌜ Laid (now image) layout × Listed (modelOf (now image)) (now externals) ⌝ }
     ensures { λ r. ⌜ r ≡ below (layout .connectors .count) (memberExternal (modelOf (now (image .entry)))) ⌝ }
 {

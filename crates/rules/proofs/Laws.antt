@@ -18,8 +18,8 @@ use Rattle.oce_diag.proofs.Diagnostics.{errors-append, no-errors, some-error}
 use Rattle.oce_diag.proofs.Putting.{put-then}
 use Rattle.accept.specs.Layout.{Laid}
 use Rattle.accept.specs.declared.Layout.{Layout}
-use Rattle.base.specs.Lists.{below}
-use Rattle.degrees.specs.Columns.{listedIds, Lists}
+use Rattle.base.specs.Lists.{any, keep}
+use Rattle.externals.specs.Columns.{columnLength, Lists}
 use Rattle.records.proofs.Laws.{connectors-few, connectors-counted}
 use Rattle.slots.specs.Columns.{slotCount}
 use Rattle.structural.specs.Structural.{rule1, rule2, rule3, rule4}
@@ -78,6 +78,11 @@ zeros-at zero i = refl
 zeros-at (suc n) zero = refl
 zeros-at (suc n) (suc i) = zeros-at n i
 
-pub nothing-listed : (m : Model) → Lists m 0 (replicate listedIds 0)
-unfolding below
-nothing-listed m = record { room = omega (arith, length-replicate {A = ℕ} listedIds 0); each = λ i l. zeros-at listedIds i }
+pub nothing-listed : (m : Model) → Lists m 0 0 (replicate columnLength 0)
+unfolding any keep
+nothing-listed m = record {
+  room = omega (arith, length-replicate {A = ℕ} columnLength 0);
+  each = λ i l. zeros-at columnLength i;
+  few = omega arith;
+  rest = refl;
+}

@@ -3,9 +3,9 @@ use accept::Layout;
 use arena_ids::check_arena_ids;
 use assignment::check_single_assignment;
 use crossed::crossed_bounds;
-use degrees::LISTED_IDS;
 use degrees::in_degrees;
-use degrees::list_externals;
+use externals::EXTERNALS_COLUMN;
+use externals::list_externals;
 use oce_diag::Counted;
 use oce_model::MOST_CONNECTORS;
 use unify_clusters::unify_clusters;
@@ -18,7 +18,8 @@ ghost use Rattle.oce_model.specs.Model.{modelOf};
 ghost use Rattle.oce_diag.specs.Putting.{total, Put};
 ghost use Rattle.accept.specs.Layout.{Laid, Tabled};
 ghost use Rattle.structural.specs.Structural.{rule1, rule2, rule3, rule4};
-ghost use Rattle.degrees.specs.Columns.{Degrees, Listed};
+ghost use Rattle.degrees.specs.Columns.{Degrees};
+ghost use Rattle.externals.specs.Columns.{Listed};
 ghost use Rattle.slots.specs.Columns.{slotCount, Room};
 ghost use Rattle.rules.specs.Ran.{firstFive, Ready, Ran};
 
@@ -42,7 +43,7 @@ fn assignments_and_connections(
     image: &[u8],
     layout: Layout,
     degrees: &[u32],
-    externals: &[u8],
+    externals: &[u32],
     report: &mut [u8],
     counted: Counted,
 ) -> Counted
@@ -60,7 +61,7 @@ fn first_five<'a>(
     texts: &'a [usize],
     blocks: &[usize],
     degrees: &[u32],
-    externals: &'a [u8],
+    externals: &'a [u32],
     report: &mut [u8],
     counted: Counted,
 ) -> Counted
@@ -79,7 +80,7 @@ fn run_over<'a>(
     texts: &'a [usize],
     blocks: &[usize],
     degrees: &[u32],
-    externals: &'a [u8],
+    externals: &'a [u32],
     ks: &mut [u8],
     ms: &mut [u8],
     ns: &mut [u64],
@@ -121,7 +122,7 @@ pub fn run<'a>(
     ensures { λ c. ⌜ Ran (modelOf (now (image .entry))) (now (ks .exit)) (now (ms .exit)) (now (ns .exit)) (now (report .entry)) (now (report .exit)) c ⌝ }
 {
     let mut degrees = [0u32; MOST_CONNECTORS];
-    let mut externals = [0u8; LISTED_IDS];
+    let mut externals = [0u32; EXTERNALS_COLUMN];
     in_degrees(image, layout, &mut degrees);
     list_externals(image, layout, &mut externals);
     run_over(

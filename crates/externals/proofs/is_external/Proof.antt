@@ -1,0 +1,22 @@
+-- `externals::is_external` meets its contract.
+-- Assumes nothing.
+use borrow.Author.Needs.{needs}
+use Rattle.externals.proofs.Laws.{entry-tells, others-ascend, others-tell}
+use Rattle.externals.proofs.is_external.Statement.{statement}
+use Rattle.externals.proofs.is_external.Tie as tie
+
+pub is-external-spec : {M : Type 1} → statement M
+is-external-spec =
+    tie.close
+    (tie.spec
+    (λ c. search needs)
+    (λ c. search needs)
+    (λ c. search (entry-tells, needs))
+    (λ c. search needs)
+    (λ c κs. search needs)
+    (λ c. search needs)
+    (λ c. search needs)
+    (λ c. search needs)
+    (λ c. search needs)
+    (λ c κs. search (others-ascend, needs))
+    (λ c. search (others-tell, needs)))

@@ -1,0 +1,25 @@
+-- `externals::sort_others` meets its contract.
+-- Assumes nothing.
+use borrow.Author.Needs.{needs}
+use Rattle.externals.proofs.Laws.{noted, ordered}
+use Rattle.externals.proofs.sort_others.Statement.{statement}
+use Rattle.externals.proofs.sort_others.Tie as tie
+
+pub sort-others-spec : {M : Type 1} → statement M
+sort-others-spec =
+    tie.close
+    (tie.spec
+    (λ c. search needs)
+    (λ c. search needs)
+    (λ c. search needs)
+    (λ c. search (noted, needs))
+    (λ c. search needs)
+    (λ c. search needs)
+    (λ c. search needs)
+    (λ c. search needs)
+    (λ c. search needs)
+    (λ c κs. search needs)
+    (λ c. search needs)
+    (λ c. search needs)
+    (λ c. search needs)
+    (λ c. search (ordered, needs)))

@@ -1,0 +1,2 @@
+-- The external inputs in a column.
+pub mod Columns

@@ -1,0 +1,2 @@
+-- Numbers in ascending order.
+pub mod Sort
