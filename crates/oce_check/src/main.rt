@@ -1,5 +1,5 @@
 // Checks a model image and prints its report: of standard input, or of the file that an argument names.
-// A second argument names a new file for the filled image.
+// A second argument names a new file for the filled image. After --fields the fields of an image are listed.
 use base::part_of;
 use libc::STDERR_FILENO;
 use libc::STDIN_FILENO;
@@ -7,6 +7,7 @@ use libc::STDOUT_FILENO;
 use oce_model::LONGEST_IMAGE;
 use print_check::Input;
 use print_check::print_check;
+use print_check::print_fields;
 use print_check::read_image;
 use texts::same_bytes;
 
@@ -28,7 +29,11 @@ fn print_help() {
     );
     io::write_all(
         STDOUT_FILENO,
-        b"  oce_check IMAGE FILLED     and writes the filled image to a new file\n\n",
+        b"  oce_check IMAGE FILLED     and writes the filled image to a new file\n",
+    );
+    io::write_all(
+        STDOUT_FILENO,
+        b"  oce_check --fields IMAGE   lists the fields of the image in a file\n\n",
     );
     io::write_all(
         STDOUT_FILENO,
@@ -37,6 +42,10 @@ fn print_help() {
     io::write_all(
         STDOUT_FILENO,
         b"severity, code, rule and detail, place, subject. A refused image gives no filled image.\n",
+    );
+    io::write_all(
+        STDOUT_FILENO,
+        b"A line of --fields has a field's offset, tag and length, up to the first that runs past the end.\n",
     );
 }
 
@@ -103,6 +112,34 @@ fn check_file(name: &[u8]) {
     }
 }
 
+fn list_file(name: &[u8]) {
+    let mut bytes = [0u8; READ];
+    let input = read_image(name, &mut bytes);
+    match input {
+        Input::Bytes(n) => {
+            if !print_fields(STDOUT_FILENO, part_of(&bytes, 0, n)) {
+                complain(b"not all of the fields could be listed");
+            }
+        }
+        Input::Unreadable => {}
+    }
+}
+
+// Lists the fields of the image that the second argument names.
+fn list_named(count: usize) {
+    if count <= 2 {
+        complain(b"--fields needs an image; oce_check --help tells its use");
+        return;
+    }
+    let mut name = io::buffer();
+    let n = os::arg(2, &mut name);
+    if os::errno() != 0 {
+        complain(b"the second argument is too long");
+        return;
+    }
+    list_file(&name[..n]);
+}
+
 fn main() {
     let count = os::arg_count();
     if count <= 1 {
@@ -121,6 +158,10 @@ fn main() {
     }
     if same_bytes(&name[..n], b"--help") {
         print_help();
+        return;
+    }
+    if same_bytes(&name[..n], b"--fields") {
+        list_named(count);
         return;
     }
     check_file(&name[..n]);

@@ -1,4 +1,4 @@
--- Laws of a report that is printed piece by piece.
+-- Laws of a report that is printed, and of fields that are listed, piece by piece.
 -- Assumes nothing.
 use Prim.Native.Nat.{ℕ, _-_, _≤_, _<_}
 use native.Mathlib.Omega.{arith}
@@ -8,6 +8,8 @@ use lib.ListN.{length}
 use Rattle.printed.specs.Printed.{longestLine}
 use Rattle.printed.specs.Pieces.{Pieced}
 use Rattle.printed.specs.declared.Piece.{Piece}
+use Rattle.field_lines.specs.Lines as listed
+use Rattle.field_lines.specs.declared.Piece as listed-piece
 
 -- the bytes of a piece
 abbrev pub pieceSize : ℕ
@@ -20,3 +22,7 @@ module _ {s report : List ℕ} {from count : ℕ} {b b′ : List ℕ} {r : Piece
 
   pub piece-within : r .next ≤ count
   piece-within = p .within
+
+-- the next field to list is in the image
+pub fields-within : {s : List ℕ} {from : ℕ} {b b′ : List ℕ} {r : listed-piece.Piece} → listed.Pieced s from b b′ r → r .next ≤ length s
+fields-within p = p .within

@@ -1,8 +1,10 @@
-// A model image checked, and its report printed in large pieces.
+// A model image checked, and its report printed in large pieces; or its fields listed.
 use accept::Acceptance;
 use accept::Layout;
 use accept::accept;
 use base::part_of;
+use field_lines::put_fields;
+use oce_model::LONGEST_IMAGE;
 use oce_model::MOST_BLOCKS;
 use oce_model::MOST_TEXTS;
 use oce_validate::check;
@@ -102,6 +104,26 @@ pub fn print_check(fd: i32, image: &[u8], filled: &mut [u8]) -> Outcome {
     Outcome {
         is_checked: is_checked(answer),
         is_printed: print_all(fd, image, &report, answer),
+    }
+}
+
+// Prints a line for each field of an image, up to the first that runs past its end, and says whether all
+// were written.
+pub fn print_fields(fd: i32, image: &[u8]) -> bool {
+    if LONGEST_IMAGE < image.len() {
+        return false;
+    }
+    let mut out = [0u8; PIECE];
+    let mut at = 0;
+    loop {
+        let piece = put_fields(image, at, &mut out);
+        if piece.next <= at {
+            return true;
+        }
+        if !io::write_all(fd, part_of(&out, 0, piece.length)) {
+            return false;
+        }
+        at = piece.next;
     }
 }
 

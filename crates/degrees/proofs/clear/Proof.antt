@@ -2,16 +2,17 @@
 -- Assumes nothing.
 use borrow.Author.Needs.{needs}
 use Prim.Native.Nat.{_-_}
+use lib.ListN.{length}
 use Rattle.degrees.specs.Columns.{Clears}
-use Rattle.degrees.proofs.Laws.{clear-start, clear-more, clear-room, clear-end}
+use Rattle.degrees.proofs.Laws.{clear-start, clear-more, clear-same, clear-end}
 use Rattle.degrees.proofs.clear.Statement.{statement}
 use Rattle.degrees.proofs.clear.Tie as tie
 
 abbrev Inv-loop : tie.InvT-loop
-Inv-loop ds₀ n i₀ ds i = Clears n ds₀ i ds
+Inv-loop ds₀ i₀ ds i = Clears ds₀ i ds
 
 abbrev μ-loop : tie.MeasureT-loop
-μ-loop ds₀ n i₀ ds i = n - i
+μ-loop ds₀ i₀ ds i = length ds₀ - i
 
 pub clear-spec : {M : Type 1} → statement M
 clear-spec =
@@ -19,11 +20,11 @@ clear-spec =
     (tie.spec
     Inv-loop
     μ-loop
-    (λ c. search (clear-start, clear-more, clear-room, clear-end, needs))
-    (λ c. search (clear-start, clear-more, clear-room, clear-end, needs))
-    (λ c. search (clear-start, clear-more, clear-room, clear-end, needs))
-    (λ c. search (clear-start, clear-more, clear-room, clear-end, needs))
-    (λ c. search (clear-start, clear-more, clear-room, clear-end, needs))
-    (λ c. search (clear-start, clear-more, clear-room, clear-end, needs))
-    (λ c. search (clear-start, clear-more, clear-room, clear-end, needs))
-    (λ c. search (clear-start, clear-more, clear-room, clear-end, needs)))
+    (λ c. search (clear-start, needs))
+    (λ c. search needs)
+    (λ c. search needs)
+    (λ c. search needs)
+    (λ c. search (clear-same, needs))
+    (λ c. search (clear-more, needs))
+    (λ c. search (clear-same, needs))
+    (λ c. search (clear-end, needs)))

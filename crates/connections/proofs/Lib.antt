@@ -1,0 +1,2 @@
+-- Laws of in-degrees over a list of connections.
+pub mod Laws

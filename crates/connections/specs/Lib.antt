@@ -1,0 +1,2 @@
+-- In-degrees over a list of connections.
+pub mod Counted

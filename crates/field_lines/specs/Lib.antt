@@ -1,0 +1,2 @@
+-- The lines that list an image's fields.
+pub mod Lines

@@ -1,0 +1,2 @@
+-- Laws of what a reader finds.
+pub mod Laws
