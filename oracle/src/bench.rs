@@ -6,6 +6,7 @@ use crate::format::MAX_IMAGE;
 use crate::generator::{FAULTS, Size, inject, plant};
 use crate::random::Random;
 use crate::reader::{Accepted, read};
+use crate::tool;
 use crate::validate;
 
 pub const SEED: u64 = 10_000;
@@ -13,6 +14,19 @@ pub const IMAGES: u64 = 10_000;
 pub const MAX_CONNECTORS: usize = 1_000;
 /// Runs of one image, each on a fresh copy of the model.
 pub const RUNS: usize = 5;
+
+/// How many images a benchmark's arguments ask for.
+pub fn asked(arguments: &[String]) -> Result<u64, String> {
+    let count = match arguments {
+        [] => IMAGES,
+        [count] => tool::number("COUNT", count)?,
+        _ => return Err("usage: bench [COUNT]".to_owned()),
+    };
+    if !(1..=IMAGES).contains(&count) {
+        return Err(format!("COUNT must be from 1 to {IMAGES}, got {count}"));
+    }
+    Ok(count)
+}
 
 /// Draws of one image before one is of the kind asked for.
 const DRAWS: u64 = 64;

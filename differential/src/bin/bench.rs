@@ -10,7 +10,7 @@ use std::process::ExitCode;
 use std::time::{Duration, Instant};
 
 use differential::heavy;
-use oracle::bench::{IMAGES, RUNS, SEED, image, measure};
+use oracle::bench::{RUNS, SEED, asked, image, measure};
 use oracle::format::{DIAGNOSTIC_LEN, MAX_IMAGE};
 use oracle::generator::{LIMIT_CASES, limit_case};
 use oracle::random::Random;
@@ -45,14 +45,7 @@ struct Buffers {
 
 fn main() -> ExitCode {
     tool::run("bench", |arguments| {
-        let count = match arguments {
-            [] => IMAGES,
-            [count] => tool::number("COUNT", count)?,
-            _ => return Err("usage: bench [COUNT]".to_owned()),
-        };
-        if !(1..=IMAGES).contains(&count) {
-            return Err(format!("COUNT must be from 1 to {IMAGES}, got {count}"));
-        }
+        let count = asked(arguments)?;
         let mut buffers = Buffers {
             filled: vec![0; MAX_IMAGE],
             report: vec![0; REPORT_ROOM],

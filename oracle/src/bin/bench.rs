@@ -4,19 +4,12 @@ use std::fmt::Write;
 use std::process::ExitCode;
 use std::time::Duration;
 
-use oracle::bench::{IMAGES, MAX_CONNECTORS, Measured, RUNS, SEED, measure};
+use oracle::bench::{MAX_CONNECTORS, Measured, RUNS, SEED, asked, measure};
 use oracle::tool;
 
 fn main() -> ExitCode {
     tool::run("bench", |arguments| {
-        let count = match arguments {
-            [] => IMAGES,
-            [count] => tool::number("COUNT", count)?,
-            _ => return Err("usage: bench [COUNT]".to_owned()),
-        };
-        if !(1..=IMAGES).contains(&count) {
-            return Err(format!("COUNT must be from 1 to {IMAGES}, got {count}"));
-        }
+        let count = asked(arguments)?;
         let all: Vec<Measured> = (0..count).map(measure).collect();
         Ok(report(&all).into_bytes())
     })
