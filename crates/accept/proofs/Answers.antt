@@ -4,9 +4,9 @@ use Prim.Native.Nat.{ℕ, suc, _+_, _-_, _<_, _≤_}
 use native.Mathlib.Numerals.{add-one}
 use native.Mathlib.Omega.{arith}
 use mathlib.Core.Path.{_≡_, refl, sym, ap, _∙_}
-use mathlib.Core.Bool.{Bool, true, false, cond}
-use mathlib.Core.List.{List}
-use mathlib.Core.Option.{Option, none, some}
+use mathlib.Core.Bool.{Bool, true, false, cond, _||_}
+use mathlib.Core.List.{List, List·Memᴰ}
+use mathlib.Core.Option.{Option, none, some, Option·some-ne-none}
 use lib.Dec.{ltb}
 use lib.ListN.{length, drop}
 use lib.Seq.{drop-append-seam}
@@ -14,22 +14,27 @@ use mir.Syntax.{w32}
 use mir.Val.{Fits}
 use borrow.Author.Tests.{lt-ltb, le-ltb, ltb-true}
 use Rattle.base.specs.Buffers.{startsWith}
+use Rattle.base.proofs.Lists.{or-parts}
 use Rattle.oce_model.specs.Format.{textTag, shortestImage, longestImage}
 use Rattle.oce_model.specs.Image.{fields, first, ofTag, stop}
-use Rattle.oce_model.specs.Refusals.{Refusal, badTag, fault, refusal, refusalsFrom, refusedAt}
+use Rattle.oce_model.specs.Refusals.{Refusal, badContents, badLength, badReference, badTag, badText, fault, refusal, refusalsFrom, refusedAt, tooMany}
 use Rattle.oce_model.specs.declared.Field.{Field}
 use Rattle.oce_model.proofs.Accepted.{stops}
+use Rattle.oce_model.proofs.Fields.{first-none, none-mem, none-of}
 use Rattle.oce_model.proofs.Places.{Chain, end, and, endAt, chain}
 use Rattle.framing.specs.Walk.{Ended, foundOf, framed}
 use Rattle.framing.specs.declared.Found.{Found}
 use Rattle.framing.specs.declared.Found.the-variants.{At, Nothing}
 use Rattle.framing.specs.declared.Framed.{Framed}
 use Rattle.framing.specs.declared.Framed.the-variants.{Cut, Whole}
-use Rattle.accept.specs.Layout.{Laid, Tabled, acceptance, accepts, ifAccepted, layoutOf, offsetsOf, tableAfter}
+use Rattle.accept.specs.Layout.{Laid, Listed, Tabled, acceptance, accepts, layoutOf, offsetsOf}
+use Rattle.sieve.specs.Faulty.{atFault}
 use Rattle.accept.specs.Sections.{Tagged, verdictOf}
+use Rattle.accept.specs.Sifting.{Framing, Lists, Surveys, faulty}
 use Rattle.accept.specs.declared.Acceptance.{Acceptance}
 use Rattle.accept.specs.declared.Acceptance.the-variants.{Refused, Accepted}
 use Rattle.accept.specs.declared.Layout.{Layout}
+use Rattle.accept.specs.declared.Surveyed.{Surveyed}
 use Rattle.accept.specs.declared.Verdict.{Verdict}
 use Rattle.accept.specs.declared.Verdict.the-variants.{Away, Fine}
 
@@ -149,8 +154,41 @@ module _ (s : List ℕ) where
       pub refused-bad : {at : ℕ} {bad : Found} → r ≡ Whole bad → bad ≡ At at → Away 3 at ≡ verdictOf (refusal s)
       refused-bad {at} h b = sym (ap verdictOf (later (some at) h (found-some (first badTag (fields s)) at (sym b ∙ whole-bad h .1))))
 
-      pub refused-later : {bad : Found} {v : Verdict} → r ≡ Whole bad → bad ≡ Nothing → v ≡ verdictOf (refusalsFrom 5 4 s (fields s)) → v ≡ verdictOf (refusal s)
-      refused-later h b e = e ∙ sym (ap verdictOf (later none h (found-none (first badTag (fields s)) (sym b ∙ whole-bad h .1))))
+      pub whole-framing : {bad : Found} → r ≡ Whole bad → bad ≡ Nothing → Framing s
+      whole-framing h b = record { tagged = whole-tagged h b l; same = later none h (found-none (first badTag (fields s)) (sym b ∙ whole-bad h .1)) }
+
+-- ---- no field at fault
+
+module _ (s : List ℕ) (h : first (faulty s) (fields s) ≡ none) where
+  n : ℕ
+  n = length (ofTag textTag (fields s))
+
+  -- none of the five tests passes
+  record Fine-field (f : Field) : Type 0 where
+    lengths : badLength s f ≡ false
+    counts : tooMany f ≡ false
+    contents : badContents s f ≡ false
+    texts : badText s f ≡ false
+    numbers : badReference n s f ≡ false
+
+  fine-field : (f : Field) → List·Memᴰ f (fields s) → Fine-field f
+  unfolding atFault n
+  fine-field f m =
+      let w = none-mem (faulty s) (fields s) (none-of (faulty s) (fields s) h) f m in
+      let a = or-parts (badLength s f || tooMany f || badContents s f || badText s f) (badReference n s f) w in
+      let b = or-parts (badLength s f || tooMany f || badContents s f) (badText s f) (a .0) in
+      let c = or-parts (badLength s f || tooMany f) (badContents s f) (b .0) in
+      let d = or-parts (badLength s f) (tooMany f) (c .0) in
+      record { lengths = d .0; counts = d .1; contents = c .1; texts = b .1; numbers = a .1 }
+
+  pub clean-fields : refusalsFrom 5 4 s (fields s) ≡ none
+  unfolding fault refusalsFrom n
+  clean-fields =
+      one-step 4 4 s n none refl (first-none (fault 4 n s) (fields s) (λ f m. fine-field f m .lengths))
+      ∙ one-step 3 5 s n none refl (first-none (fault 5 n s) (fields s) (λ f m. fine-field f m .counts))
+      ∙ one-step 2 6 s n none refl (first-none (fault 6 n s) (fields s) (λ f m. fine-field f m .contents))
+      ∙ one-step 1 7 s n none refl (first-none (fault 7 n s) (fields s) (λ f m. fine-field f m .texts))
+      ∙ one-step 0 8 s n none refl (first-none (fault 8 n s) (fields s) (λ f m. fine-field f m .numbers))
 
 -- ---- the answer
 
@@ -165,25 +203,72 @@ verdict-some s (some r) n at h =
     let q : r .offset ≡ at = cc in
     rw (p, q)
 
-module _ (s : List ℕ) {v : Verdict} (e : v ≡ verdictOf (refusal s)) where
-  pub fine-accepted : v ≡ Fine → refusal s ≡ none
-  fine-accepted h = verdict-none (refusal s) (sym h ∙ e)
+-- a refused image has no table
+some-not : (s : List ℕ) (o : Option Refusal) (n at : ℕ) → Away n at ≡ verdictOf o → o ≡ none → ⊥
+some-not s none n at h e = let z : _≡_ {A = ℕ} 0 1 = cc in omega arith
+some-not s (some r) n at h e = Option·some-ne-none r e
 
-  pub answer-refused : {n at : ℕ} → v ≡ Away n at → Refused n at ≡ acceptance s
+module _ (s : List ℕ) {n at : ℕ} (e : Away n at ≡ verdictOf (refusal s)) where
+  pub answer-refused : Refused n at ≡ acceptance s
   unfolding acceptance
-  answer-refused {n} {at} h = sym (verdict-some s (refusal s) n at (sym h ∙ e))
+  answer-refused = sym (verdict-some s (refusal s) n at e)
 
-  pub table-kept : (t : ℕ) (table : List ℕ) {n at : ℕ} → v ≡ Away n at → table ≡ tableAfter t s table
-  unfolding tableAfter
-  table-kept t table h = sym (ap (λ a. ifAccepted a (startsWith (offsetsOf t s) table) table) (sym (answer-refused h)))
+  pub table-refused : (t : ℕ) (table : List ℕ) → Listed t s table
+  table-refused t table = record { listed = λ h. absurd (some-not s (refusal s) n at e h) }
 
-  pub answer-accepted : {l : Layout} → v ≡ Fine → l ≡ layoutOf s → Accepted l ≡ acceptance s
+module _ (s : List ℕ) (e : refusal s ≡ none) where
+  pub answer-accepted : {l : Layout} → l ≡ layoutOf s → Accepted l ≡ acceptance s
   unfolding acceptance
-  answer-accepted h q = rw q (sym (ap (accepts s) (fine-accepted h)))
+  answer-accepted q = rw q (sym (ap (accepts s) e))
 
-  pub table-written : (t : ℕ) (table table′ : List ℕ) → v ≡ Fine → table′ ≡ startsWith (offsetsOf t s) table → table′ ≡ tableAfter t s table
-  unfolding tableAfter
-  table-written t table table′ h q = q ∙ sym (ap (λ a. ifAccepted a (startsWith (offsetsOf t s) table) table) (sym (answer-accepted h refl)))
+own : (xs b : List ℕ) → startsWith xs b ≡ startsWith xs (startsWith xs b)
+unfolding startsWith
+own xs b = sym (rw (drop-append-seam xs (drop (length xs) b)))
+
+pub tabled-own : (t : ℕ) (s table : List ℕ) {table′ : List ℕ} → table′ ≡ startsWith (offsetsOf t s) table → Tabled t s table′
+tabled-own t s table w = record { offsets = w ∙ own (offsetsOf t s) table ∙ ap (startsWith (offsetsOf t s)) (sym w) }
+
+-- ---- the tables of an image that refusals 1 to 3 turn away
+
+module _ (t : ℕ) (s table : List ℕ) where
+  pub short-table : length s < shortestImage → Listed t s table
+  short-table h = table-refused s (too-short s h) t table
+
+  pub long-table : shortestImage ≤ length s → longestImage < length s → Listed t s table
+  long-table g h = table-refused s (too-long s g h) t table
+
+  module _ {r : Framed} (e : r ≡ framed s) (g : shortestImage ≤ length s) (l : length s ≤ longestImage) where
+    pub cut-table : {at : ℕ} → r ≡ Cut at → Listed t s table
+    cut-table h = table-refused s (refused-cut s e g l h) t table
+
+    pub bad-table : {at : ℕ} {bad : Found} → r ≡ Whole bad → bad ≡ At at → Listed t s table
+    bad-table h b = table-refused s (refused-bad s e g l h b) t table
+
+-- ---- the answer for an image with good tags
+
+module _ {s : List ℕ} (v : Framing s) where
+  module _ {r : Surveyed} (w : Surveys s r) where
+    pub survey-answer : r .fine ≡ true → Accepted (r .layout) ≡ acceptance s
+    survey-answer h = answer-accepted s (v .same ∙ clean-fields s (w .clean h)) (w .layout h)
+
+  module _ {r : Verdict} (e : r ≡ verdictOf (refusalsFrom 5 4 s (fields s))) where
+    away : {n at : ℕ} → r ≡ Away n at → Away n at ≡ verdictOf (refusal s)
+    away h = sym h ∙ e ∙ sym (ap verdictOf (v .same))
+
+    pub fields-refused : {n at : ℕ} → r ≡ Away n at → Refused n at ≡ acceptance s
+    fields-refused h = answer-refused s (away h)
+
+    pub fields-table : {n at : ℕ} (t : ℕ) (table : List ℕ) → r ≡ Away n at → Listed t s table
+    fields-table t table h = table-refused s (away h) t table
+
+    pub fields-accepted : r ≡ Fine → refusal s ≡ none
+    fields-accepted h = v .same ∙ verdict-none (refusalsFrom 5 4 s (fields s)) (sym h ∙ e)
+
+pub survey-table : {t : ℕ} {s : List ℕ} {fine : Bool} {table : List ℕ} → Lists t s fine table → fine ≡ true → Listed t s table
+survey-table v h = record { listed = λ _. v .lists h }
+
+pub layout-table : (t : ℕ) (s table : List ℕ) {table′ : List ℕ} → table′ ≡ startsWith (offsetsOf t s) table → Listed t s table′
+layout-table t s table w = record { listed = λ _. tabled-own t s table w }
 
 -- ---- what later readers are given
 
@@ -191,17 +276,10 @@ laid-of : (s : List ℕ) (o : Option Refusal) (l : Layout) → refusal s ≡ o �
 laid-of s none l e h = record { accepted = e; layout = cc }
 laid-of s (some r) l e h = let z : _≡_ {A = ℕ} 0 1 = cc in absurd (omega arith)
 
-own : (xs b : List ℕ) → startsWith xs b ≡ startsWith xs (startsWith xs b)
-unfolding startsWith
-own xs b = sym (rw (drop-append-seam xs (drop (length xs) b)))
-
 module _ {s : List ℕ} {a : Acceptance} {l : Layout} (e : a ≡ acceptance s) (h : a ≡ Accepted l) where
   pub accepted-laid : Laid s l
   unfolding acceptance
   accepted-laid = laid-of s (refusal s) l refl (sym h ∙ e)
 
-  pub accepted-tabled : (table : List ℕ) {t : ℕ} {table′ : List ℕ} → table′ ≡ tableAfter t s table → Tabled t s table′
-  unfolding tableAfter
-  accepted-tabled table {t} {table′} q =
-      let w : table′ ≡ startsWith (offsetsOf t s) table = q ∙ ap (λ a. ifAccepted a (startsWith (offsetsOf t s) table) table) (sym e ∙ h) in
-      record { offsets = w ∙ own (offsetsOf t s) table ∙ ap (startsWith (offsetsOf t s)) (sym w) }
+  pub accepted-tabled : {t : ℕ} {table : List ℕ} → Listed t s table → Tabled t s table
+  accepted-tabled v = v .listed (accepted-laid .accepted)

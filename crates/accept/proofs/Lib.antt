@@ -2,3 +2,4 @@
 pub mod Runs
 pub mod Rooms
 pub mod Answers
+pub mod Sifts

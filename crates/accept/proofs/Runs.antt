@@ -266,17 +266,20 @@ module _ {t : ℕ} {s table₀ : List ℕ} {n : ℕ} {table : List ℕ} {f : Fie
   pub tabling-index : length (offsetsOf t s) ≤ length table₀ → f .at < length s → f .tag ≡ t → n < length table
   tabling-index room h tag = omega (arith, counting-more (v .counts) h tag, v .long)
 
-  pub tabling-turn : {g : Field} → length (offsetsOf t s) ≤ length table₀ → f .at < length s → f .tag ≡ t → g ≡ after s f
-      → Tabling t s table₀ (n + 1) (set table n (f .at)) g
+  pub tabling-put : {g : Field} → n < length table₀ → f .at < length s → f .tag ≡ t → g ≡ after s f → Tabling t s table₀ (n + 1) (set table n (f .at)) g
   unfolding counting-turn
-  tabling-turn room h tag e =
+  tabling-put l h tag e =
       let k = v .counts in
-      let l : length (k .offsets) < length table₀ = omega (arith, counting-more k h tag, k .count) in
+      let m : length (k .offsets) < length table₀ = omega (arith, k .count) in
       record {
         counts = counting-turn k h tag e;
-        is = rw (v .is, k .count) (one-more (k .offsets) table₀ (f .at) l);
+        is = rw (v .is, k .count) (one-more (k .offsets) table₀ (f .at) m);
         long = simp length-set (v .long);
       }
+
+  pub tabling-turn : {g : Field} → length (offsetsOf t s) ≤ length table₀ → f .at < length s → f .tag ≡ t → g ≡ after s f
+      → Tabling t s table₀ (n + 1) (set table n (f .at)) g
+  tabling-turn room h tag e = tabling-put (omega (arith, counting-more (v .counts) h tag)) h tag e
 
   pub table-past : f .at < length s → f .tag ≢ t → table ≡ startsWith (offsetsOf t s) table₀
   table-past h o = v .is ∙ rw (all-passed (v .counts) (gone-past (v .counts) h o))

@@ -45,14 +45,6 @@ accepts s (some r) = Refused (r .number) (r .offset)
 unfoldable pub acceptance : List ℕ → Acceptance
 acceptance s = accepts s (refusal s)
 
--- a table of offsets after `accept`: those of an accepted image's fields with a tag, then what it held; unchanged where the image is refused
-abbrev pub ifAccepted : Acceptance → List ℕ → List ℕ → List ℕ
-ifAccepted (Refused number at) new old = old
-ifAccepted (Accepted l) new old = new
-
-unfoldable pub tableAfter : ℕ → List ℕ → List ℕ → List ℕ
-tableAfter t s table = ifAccepted (acceptance s) (startsWith (offsetsOf t s) table) table
-
 -- ---- what every later reader is given: l is the layout of an accepted image s
 
 pub record Laid (s : List ℕ) (l : Layout) : Type 0 where
@@ -62,3 +54,7 @@ pub record Laid (s : List ℕ) (l : Layout) : Type 0 where
 -- a table begins with the offsets of the fields with tag t
 pub record Tabled (t : ℕ) (s table : List ℕ) : Type 0 where
   pub offsets : table ≡ startsWith (offsetsOf t s) table
+
+-- a table of offsets after `accept`; of a refused image nothing is said
+pub record Listed (t : ℕ) (s table : List ℕ) : Type 0 where
+  pub listed : refusal s ≡ none → Tabled t s table

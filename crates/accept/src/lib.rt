@@ -20,16 +20,19 @@ use oce_model::MOST_BLOCKS;
 use oce_model::MOST_TEXTS;
 use oce_model::SHORTEST_IMAGE;
 use oce_model::TEXT_TAG;
+use sieve::is_faulty;
+use sieve::is_faulty_list;
 ghost use mathlib.Core.Path.{_≡_};
 ghost use mathlib.Core.Option.{none};
-ghost use Prim.Native.Nat.{_≤_};
+ghost use Prim.Native.Nat.{_+_, _<_, _≤_};
 ghost use lib.ListN.{length};
 ghost use Rattle.base.specs.Buffers.{startsWith};
 ghost use Rattle.oce_model.specs.Format.{textTag, blockTag, connectorTag, most};
 ghost use Rattle.oce_model.specs.Image.{fields, ofTag};
 ghost use Rattle.oce_model.specs.Refusals.{refusal, refusalsFrom};
-ghost use Rattle.accept.specs.Layout.{layoutOf, offsetsOf, acceptance, tableAfter};
+ghost use Rattle.accept.specs.Layout.{layoutOf, offsetsOf, acceptance, Listed};
 ghost use Rattle.accept.specs.Sections.{Tagged, Begins, Passed, fixedOf, verdictOf};
+ghost use Rattle.accept.specs.Sifting.{Entered, Sifts, Lists, Ready, Follows, Fixes, Surveys, Framing};
 
 // Where the records of a tag begin, and how many there are.
 pub struct Section {
@@ -196,34 +199,6 @@ fn refuse_fields(s: &[u8]) -> Verdict
     Verdict::Fine
 }
 
-// All of them, the lowest number first.
-fn refuse(s: &[u8]) -> Verdict
-    ensures { λ r. ⌜ r ≡ verdictOf (refusal (now (s .entry))) ⌝ }
-{
-    if s.len() < SHORTEST_IMAGE {
-        return Verdict::Away { number: 1, at: 0 };
-    }
-    if LONGEST_IMAGE < s.len() {
-        return Verdict::Away { number: 1, at: 0 };
-    }
-    let framed = frame(s);
-    match framed {
-        Framed::Cut(at) => Verdict::Away {
-            number: 2,
-            at: at as u32,
-        },
-        Framed::Whole(bad) => match bad {
-            Found::At(at) => Verdict::Away {
-                number: 3,
-                at: at as u32,
-            },
-            Found::Nothing => refuse_fields(s),
-        },
-    }
-}
-
-// ---- the whole
-
 // The layout of an accepted image; the tables get the offsets of its texts and blocks.
 fn lay_out(s: &[u8], texts: &mut [usize], blocks: &mut [usize]) -> Layout
     requires { ⌜ refusal (now s) ≡ none ⌝ }
@@ -257,20 +232,276 @@ fn lay_out(s: &[u8], texts: &mut [usize], blocks: &mut [usize]) -> Layout
     }
 }
 
+// ---- one pass for an image with nothing at fault
+
+// A section that was passed, with nothing at fault where fine, and the field behind it.
+struct Sifted {
+    pub fine: bool,
+    pub records: Section,
+    pub next: Field,
+}
+
+// Passes the section of a tag, which begins at f, up to a field that is at fault; n is the number of
+// texts, for the tags behind texts.
+fn sift_section(s: &[u8], f: Field, tag: usize, n: usize) -> Sifted
+    requires { ⌜ Entered tag n (now s) f ⌝ }
+    ensures { λ r. ⌜ Sifts tag (now (s .entry)) r ⌝ }
+{
+    let start = f.at;
+    let mut passed = 0;
+    let mut g = f;
+    while g.at < s.len() {
+        if g.tag != tag {
+            return Sifted {
+                fine: true,
+                records: Section {
+                    start,
+                    count: passed,
+                },
+                next: g,
+            };
+        }
+        if is_faulty(n, s, g) {
+            return Sifted {
+                fine: false,
+                records: Section {
+                    start,
+                    count: passed,
+                },
+                next: g,
+            };
+        }
+        passed += 1;
+        g = next_field(s, g);
+    }
+    Sifted {
+        fine: true,
+        records: Section {
+            start,
+            count: passed,
+        },
+        next: g,
+    }
+}
+
+// The same, with the offset of each field put into a table, up to the table's end.
+fn list_section(s: &[u8], f: Field, tag: usize, n: usize, table: &mut [usize]) -> Sifted
+    requires { ⌜ Entered tag n (now s) f ⌝ }
+    ensures sifts { λ r. ⌜ Sifts tag (now (s .entry)) r ⌝ }
+    ensures table { λ r. ⌜ Lists tag (now (s .entry)) (r .fine) (now (table .exit)) ⌝ }
+{
+    let start = f.at;
+    let mut listed = 0;
+    let mut g = f;
+    while g.at < s.len() {
+        if g.tag != tag {
+            return Sifted {
+                fine: true,
+                records: Section {
+                    start,
+                    count: listed,
+                },
+                next: g,
+            };
+        }
+        if is_faulty_list(n, s, g) {
+            return Sifted {
+                fine: false,
+                records: Section {
+                    start,
+                    count: listed,
+                },
+                next: g,
+            };
+        }
+        if table.len() <= listed {
+            return Sifted {
+                fine: false,
+                records: Section {
+                    start,
+                    count: listed,
+                },
+                next: g,
+            };
+        }
+        table[listed] = g.at;
+        listed += 1;
+        g = next_field(s, g);
+    }
+    Sifted {
+        fine: true,
+        records: Section {
+            start,
+            count: listed,
+        },
+        next: g,
+    }
+}
+
+// The section behind one that was passed; what is behind a fault isn't looked at.
+fn sift_on(s: &[u8], before: Sifted, tag: usize, n: usize) -> Sifted
+    requires { ⌜ Ready tag n (now s) before ⌝ }
+    requires { ⌜ textTag < tag ⌝ }
+    ensures follows { λ r. ⌜ Follows tag (now (s .entry)) before r ⌝ }
+    ensures ready { λ r. ⌜ Ready (tag + 1) n (now (s .entry)) r ⌝ }
+{
+    if before.fine {
+        return sift_section(s, before.next, tag, n);
+    }
+    before
+}
+
+fn list_on(s: &[u8], before: Sifted, tag: usize, n: usize, table: &mut [usize]) -> Sifted
+    requires { ⌜ Ready tag n (now s) before ⌝ }
+    ensures follows { λ r. ⌜ Follows tag (now (s .entry)) before r ⌝ }
+    ensures table { λ r. ⌜ Lists tag (now (s .entry)) (r .fine) (now (table .exit)) ⌝ }
+{
+    if before.fine {
+        return list_section(s, before.next, tag, n, table);
+    }
+    before
+}
+
+// The sections whose records have a fixed size, with nothing at fault where fine.
+struct Rest {
+    pub fine: bool,
+    pub fixed: Fixed,
+}
+
+// Passes them, from the connectors on, where there are n texts.
+fn sift_fixed(s: &[u8], before: Sifted, n: usize) -> Rest
+    requires { ⌜ Ready connectorTag n (now s) before ⌝ }
+    ensures { λ r. ⌜ Fixes (now (s .entry)) before r ⌝ }
+{
+    let connectors = sift_on(s, before, CONNECTOR_TAG, n);
+    let connections = sift_on(s, connectors, CONNECTION_TAG, n);
+    let externals = sift_on(s, connections, EXTERNAL_INPUT_TAG, n);
+    let inputs = sift_on(s, externals, BOUNDARY_INPUT_TAG, n);
+    let outputs = sift_on(s, inputs, BOUNDARY_OUTPUT_TAG, n);
+    let next = outputs.next;
+    let fine = outputs.fine & (s.len() <= next.at);
+    let connectors = connectors.records;
+    let connections = connections.records;
+    let externals = externals.records;
+    let inputs = inputs.records;
+    let outputs = outputs.records;
+    let fixed = Fixed {
+        connectors,
+        connections,
+        externals,
+        inputs,
+        outputs,
+    };
+    Rest { fine, fixed }
+}
+
+// What one pass finds: the layout, where nothing is at fault.
+struct Surveyed {
+    pub fine: bool,
+    pub layout: Layout,
+}
+
+fn survey(s: &[u8], texts: &mut [usize], blocks: &mut [usize]) -> Surveyed
+    requires { ⌜ Tagged (now s) ⌝ }
+    ensures surveys { λ r. ⌜ Surveys (now (s .entry)) r ⌝ }
+    ensures texts { λ r. ⌜ Lists textTag (now (s .entry)) (r .fine) (now (texts .exit)) ⌝ }
+    ensures blocks { λ r. ⌜ Lists blockTag (now (s .entry)) (r .fine) (now (blocks .exit)) ⌝ }
+{
+    let head = sift_section(s, first_field(s), HEAD_TAG, 0);
+    let texts = list_on(s, head, TEXT_TAG, 0, texts);
+    let listed = texts.records;
+    let n = listed.count;
+    let blocks = list_on(s, texts, BLOCK_TAG, n, blocks);
+    let rest = sift_fixed(s, blocks, n);
+    let fixed = rest.fixed;
+    let texts = texts.records;
+    let blocks = blocks.records;
+    let connectors = fixed.connectors;
+    let connections = fixed.connections;
+    let externals = fixed.externals;
+    let inputs = fixed.inputs;
+    let outputs = fixed.outputs;
+    let layout = Layout {
+        texts,
+        blocks,
+        connectors,
+        connections,
+        externals,
+        inputs,
+        outputs,
+        min: int_of_bits(at64(s, INTEGER_MIN)),
+        max: int_of_bits(at64(s, INTEGER_MAX)),
+    };
+    Surveyed {
+        fine: rest.fine,
+        layout,
+    }
+}
+
+// ---- the whole
+
+// The answer for an image with whole fields and good tags, refusal by refusal.
+fn decide(s: &[u8], texts: &mut [usize], blocks: &mut [usize]) -> Acceptance
+    requires { ⌜ Framing (now s) ⌝ }
+    requires { ⌜ most textTag ≤ length (now texts) ⌝ }
+    requires { ⌜ most blockTag ≤ length (now blocks) ⌝ }
+    ensures answer { λ r. ⌜ r ≡ acceptance (now (s .entry)) ⌝ }
+    ensures texts { λ _. ⌜ Listed textTag (now (s .entry)) (now (texts .exit)) ⌝ }
+    ensures blocks { λ _. ⌜ Listed blockTag (now (s .entry)) (now (blocks .exit)) ⌝ }
+{
+    let verdict = refuse_fields(s);
+    match verdict {
+        Verdict::Away { number, at } => Acceptance::Refused { number, at },
+        Verdict::Fine => Acceptance::Accepted(lay_out(s, texts, blocks)),
+    }
+}
+
+// The same in one pass, where nothing is at fault.
+fn accept_fields(s: &[u8], texts: &mut [usize], blocks: &mut [usize]) -> Acceptance
+    requires { ⌜ Framing (now s) ⌝ }
+    requires { ⌜ most textTag ≤ length (now texts) ⌝ }
+    requires { ⌜ most blockTag ≤ length (now blocks) ⌝ }
+    ensures answer { λ r. ⌜ r ≡ acceptance (now (s .entry)) ⌝ }
+    ensures texts { λ _. ⌜ Listed textTag (now (s .entry)) (now (texts .exit)) ⌝ }
+    ensures blocks { λ _. ⌜ Listed blockTag (now (s .entry)) (now (blocks .exit)) ⌝ }
+{
+    let found = survey(s, texts, blocks);
+    if found.fine {
+        let layout = found.layout;
+        return Acceptance::Accepted(layout);
+    }
+    decide(s, texts, blocks)
+}
+
 // Answers with the layout of an accepted image, and puts the offsets of its texts and blocks into the
-// tables; or with the first refusal that applies, and leaves the tables as they are.
+// tables; or with the first refusal that applies, and the tables then hold anything.
 pub fn accept(
     image: &[u8],
     texts: &mut [usize; MOST_TEXTS],
     blocks: &mut [usize; MOST_BLOCKS],
 ) -> Acceptance
     ensures answer { λ r. ⌜ r ≡ acceptance (now (image .entry)) ⌝ }
-    ensures texts { λ _. ⌜ now (texts .exit) ≡ tableAfter textTag (now (image .entry)) (now (texts .entry)) ⌝ }
-    ensures blocks { λ _. ⌜ now (blocks .exit) ≡ tableAfter blockTag (now (image .entry)) (now (blocks .entry)) ⌝ }
+    ensures texts { λ _. ⌜ Listed textTag (now (image .entry)) (now (texts .exit)) ⌝ }
+    ensures blocks { λ _. ⌜ Listed blockTag (now (image .entry)) (now (blocks .exit)) ⌝ }
 {
-    let verdict = refuse(image);
-    match verdict {
-        Verdict::Away { number, at } => Acceptance::Refused { number, at },
-        Verdict::Fine => Acceptance::Accepted(lay_out(image, texts, blocks)),
+    if image.len() < SHORTEST_IMAGE {
+        return Acceptance::Refused { number: 1, at: 0 };
+    }
+    if LONGEST_IMAGE < image.len() {
+        return Acceptance::Refused { number: 1, at: 0 };
+    }
+    let framed = frame(image);
+    match framed {
+        Framed::Cut(at) => Acceptance::Refused {
+            number: 2,
+            at: at as u32,
+        },
+        Framed::Whole(bad) => match bad {
+            Found::At(at) => Acceptance::Refused {
+                number: 3,
+                at: at as u32,
+            },
+            Found::Nothing => accept_fields(image, texts, blocks),
+        },
     }
 }

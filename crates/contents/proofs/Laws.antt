@@ -1,29 +1,45 @@
 -- What the code reads of a field is what the definitions name.
 -- Assumes nothing.
 use mathlib.Core.Path.{_≡_, refl, sym, _∙_}
-use mathlib.Core.Bool.{Bool, true, false}
+use mathlib.Core.Bool.{Bool, true, false, _||_}
 use mathlib.Core.List.{List}
 use Prim.Native.Nat.{ℕ, _+_}
 use lib.Dec.{eqb}
-use Rattle.numbers.specs.Bytes.{byte}
+use Rattle.numbers.specs.Bytes.{byte, le16, le32, le64}
 use Rattle.contents.proofs.Tests.{tests, or-first, other}
-use Rattle.contents.specs.Marks.{badMarks, isStray, badTextNumber}
-use Rattle.oce_model.specs.Format.{connectorTag, boundaryInputTag, boundaryOutputTag, connectorAttrs, boundaryInputAttrs, boundaryOutputAttrs}
-use Rattle.oce_model.specs.Attributes.{Attrs, attrsAt, num}
+use Rattle.contents.specs.Marks.{badMarks, isStray, straying, missing, badType}
+use Rattle.oce_model.specs.Format.{quantityBit, unitBit, displayUnitBit, minBit, maxBit, nominalBit, connectorTag, boundaryInputTag, boundaryOutputTag, connectorAttrs, boundaryInputAttrs, boundaryOutputAttrs}
+use Rattle.oce_model.specs.Attributes.{Attrs, attrsAt}
+use Rattle.oce_model.specs.Model.{connectorAt}
 use Rattle.oce_model.specs.declared.Field.{Field}
-use Rattle.oce_model.specs.Refusals.{badOrNone, stray, attrsOffset, onAttrs}
+use Rattle.oce_model.specs.Refusals.{badConnector, badAttrs, badTextNumbers, badOrNone, stray, attrsOffset, onAttrs}
 
 -- ---- what was found of numbers that were read
-module _ (s : List ℕ) (at : ℕ) (r v : Bool) where
-  pub marks-read : (k m : ℕ) → r ≡ badMarks k m → k ≡ byte s at → m ≡ byte s (at + 1) → r ≡ v → v ≡ badMarks (byte s at) (byte s (at + 1))
-  marks-read k m e f g h = sym h ∙ e ∙ rw (f, g)
 
-  pub stray-read : (p m x : ℕ) → r ≡ isStray m p x → m ≡ byte s (at + 1) → x ≡ num (attrsAt s at) p → r ≡ v → v ≡ stray (attrsAt s at) p
-  unfolding stray attrsAt
-  stray-read p m x e f g h = sym h ∙ e ∙ rw (f, g)
+spread : (b p q r s t u : Bool) → (b || (p || q || r || s || t || u)) ≡ (b || p || q || r || s || t || u)
+spread true p q r s t u = refl
+spread false p q r s t u = refl
 
-  pub text-read : (n p m x : ℕ) → r ≡ badTextNumber n m p x → m ≡ byte s (at + 1) → x ≡ num (attrsAt s at) p → r ≡ v → v ≡ badTextNumber n (byte s (at + 1)) p (num (attrsAt s at) p)
-  text-read n p m x e f g h = sym h ∙ e ∙ rw (f, g)
+module _ (s : List ℕ) (at marks q u d : ℕ) (M : marks ≡ byte s (at + 1)) (Q : q ≡ le16 s (at + 2)) (U : u ≡ le16 s (at + 4)) (D : d ≡ le16 s (at + 6)) where
+  -- refusal 6
+  pub attrs-are : (kind lo hi x : ℕ) (b r : Bool) → kind ≡ byte s at → lo ≡ le64 s (at + 8) → hi ≡ le64 s (at + 16) → x ≡ le64 s (at + 24)
+      → b ≡ badMarks kind marks → r ≡ straying marks q u d lo hi x → (b || r) ≡ badAttrs (attrsAt s at)
+  unfolding badAttrs attrsAt stray
+  attrs-are kind lo hi x b r K L H X e f =
+      let m = byte s (at + 1) in
+      rw (e, f, K, M, Q, U, D, L, H, X)
+      (spread (badMarks (byte s at) m) (isStray m quantityBit (le16 s (at + 2))) (isStray m unitBit (le16 s (at + 4))) (isStray m displayUnitBit (le16 s (at + 6)))
+      (isStray m minBit (le64 s (at + 8))) (isStray m maxBit (le64 s (at + 16))) (isStray m nominalBit (le64 s (at + 24))))
+
+  -- refusal 8
+  pub texts-are : (n : ℕ) (b : Bool) → b ≡ missing n marks q u d → b ≡ badTextNumbers n (attrsAt s at)
+  unfolding badTextNumbers attrsAt
+  texts-are n b e = e ∙ rw (M, Q, U, D)
+
+pub type-are : (s : List ℕ) (at dir kind class : ℕ) (b : Bool) → dir ≡ byte s (at + 11) → kind ≡ byte s (at + 12) → class ≡ le32 s (at + 13)
+    → b ≡ badType dir kind class → b ≡ badConnector (connectorAt s at)
+unfolding badConnector connectorAt
+type-are s at dir kind class b D K C e = e ∙ rw (D, K, C)
 
 pub none-read : (n x y : ℕ) (r v : Bool) → r ≡ badOrNone n x → x ≡ y → r ≡ v → v ≡ badOrNone n y
 none-read n x y r v e f g = sym g ∙ e ∙ rw f

@@ -46,6 +46,14 @@ not-fails a e = rw (← e)
 pub same-not : (a r : Bool) → r ≡ a → not r ≡ not a
 same-not a r e = rw e
 
+-- both sides of a test are computed
+module _ {a b x y : Bool} where
+  pub same-or : a ≡ x → b ≡ y → (a || b) ≡ (x || y)
+  same-or e f = rw (e, f)
+
+  pub same-and : a ≡ x → b ≡ y → (a && b) ≡ (x && y)
+  same-and e f = rw (e, f)
+
 -- ---- tests of numbers
 pub unequal : (n x : ℕ) → (x ≡ n → ⊥) → false ≡ eqb x n
 unequal n x h = sym (ne-eqb x n h)

@@ -29,13 +29,14 @@ use oce_model::VERSION;
 ghost use mathlib.Core.Path.{_≡_};
 ghost use Prim.Native.Nat.{_+_, _<_, _≤_};
 ghost use Rattle.numbers.specs.Bytes.{bit};
-ghost use Rattle.contents.specs.Marks.{badUnbounded, notOfInteger, badMarks, isStray, badTextNumber};
+ghost use Rattle.contents.specs.Marks.{notOfInteger, badMarks, isStray, straying, badTextNumber, missing, badType};
 ghost use Rattle.oce_model.specs.Format.{longestImage, connectorAttrs};
 ghost use Rattle.oce_model.specs.Attributes.{attrsAt};
 ghost use Rattle.oce_model.specs.Model.{connectorAt};
 ghost use Rattle.oce_model.specs.Refusals.{badHead, badConnector, badAttrs, badContents, badTextNumbers, badOrNone, badReference};
 
-// ---- the byte of set bits
+// ---- numbers of a record, however they were read. Where they are as good as random, both sides of a
+// test are computed, so that nothing has to be foreseen
 
 // Bit p of a byte is set.
 pub fn is_set(marks: usize, p: usize) -> bool
@@ -50,10 +51,28 @@ fn is_stray(marks: usize, p: usize, number: u64) -> bool
     requires { ⌜ (marks < 256) × (p < 8) ⌝ }
     ensures { λ r. ⌜ r ≡ isStray marks p number ⌝ }
 {
-    if is_set(marks, p) {
-        return false;
-    }
-    number != 0
+    !is_set(marks, p) & (number != 0)
+}
+
+// One of the numbers of attributes stands under a bit that isn't set.
+pub fn is_straying(
+    marks: usize,
+    quantity: usize,
+    unit: usize,
+    display: usize,
+    min: u64,
+    max: u64,
+    nominal: u64,
+) -> bool
+    requires { ⌜ marks < 256 ⌝ }
+    ensures { λ r. ⌜ r ≡ straying marks quantity unit display min max nominal ⌝ }
+{
+    is_stray(marks, QUANTITY_BIT, quantity as u64)
+        | is_stray(marks, UNIT_BIT, unit as u64)
+        | is_stray(marks, DISPLAY_UNIT_BIT, display as u64)
+        | is_stray(marks, MIN_BIT, min)
+        | is_stray(marks, MAX_BIT, max)
+        | is_stray(marks, NOMINAL_BIT, nominal)
 }
 
 // An Integer sets only min and max.
@@ -61,50 +80,54 @@ fn bad_integer_marks(marks: usize) -> bool
     requires { ⌜ marks < 256 ⌝ }
     ensures { λ r. ⌜ r ≡ notOfInteger marks ⌝ }
 {
-    if is_set(marks, QUANTITY_BIT) {
-        return true;
-    }
-    if is_set(marks, UNIT_BIT) {
-        return true;
-    }
-    if is_set(marks, DISPLAY_UNIT_BIT) {
-        return true;
-    }
-    if is_set(marks, NOMINAL_BIT) {
-        return true;
-    }
-    is_set(marks, UNBOUNDED_BIT)
+    is_set(marks, QUANTITY_BIT)
+        | is_set(marks, UNIT_BIT)
+        | is_set(marks, DISPLAY_UNIT_BIT)
+        | is_set(marks, NOMINAL_BIT)
+        | is_set(marks, UNBOUNDED_BIT)
 }
 
-// Bit 7 stands without bit 6.
-fn bad_unbounded(marks: usize) -> bool
-    requires { ⌜ marks < 256 ⌝ }
-    ensures { λ r. ⌜ r ≡ badUnbounded marks ⌝ }
-{
-    if is_set(marks, UNBOUNDED_VALUE_BIT) {
-        return !is_set(marks, UNBOUNDED_BIT);
-    }
-    false
-}
-
-// The kind is none, or the set bits are not the kind's.
-fn bad_marks(kind: usize, marks: usize) -> bool
+// The kind is none, bit 7 stands without bit 6, or the set bits are not the kind's.
+pub fn bad_marks(kind: usize, marks: usize) -> bool
     requires { ⌜ marks < 256 ⌝ }
     ensures { λ r. ⌜ r ≡ badMarks kind marks ⌝ }
 {
-    if ENUM_KIND < kind {
-        return true;
-    }
-    if bad_unbounded(marks) {
-        return true;
-    }
-    if kind == INTEGER_KIND {
-        return bad_integer_marks(marks);
-    }
-    if INTEGER_KIND < kind {
-        return marks != 0;
-    }
-    false
+    (ENUM_KIND < kind)
+        | (is_set(marks, UNBOUNDED_VALUE_BIT) & !is_set(marks, UNBOUNDED_BIT))
+        | ((kind == INTEGER_KIND) & bad_integer_marks(marks))
+        | ((INTEGER_KIND < kind) & (marks != 0))
+}
+
+// Of n texts, none has a number that is in use where its bit is set.
+fn bad_text_number(n: usize, marks: usize, p: usize, number: usize) -> bool
+    requires { ⌜ (marks < 256) × (p < 8) ⌝ }
+    ensures { λ r. ⌜ r ≡ badTextNumber n marks p number ⌝ }
+{
+    is_set(marks, p) & (n <= number)
+}
+
+// One of the text numbers of attributes that are in use is no text's.
+pub fn is_missing(n: usize, marks: usize, quantity: usize, unit: usize, display: usize) -> bool
+    requires { ⌜ marks < 256 ⌝ }
+    ensures { λ r. ⌜ r ≡ missing n marks quantity unit display ⌝ }
+{
+    bad_text_number(n, marks, QUANTITY_BIT, quantity)
+        | bad_text_number(n, marks, UNIT_BIT, unit)
+        | bad_text_number(n, marks, DISPLAY_UNIT_BIT, display)
+}
+
+// A text number that may mean none.
+pub fn bad_or_none(n: usize, number: usize) -> bool
+    ensures { λ r. ⌜ r ≡ badOrNone n number ⌝ }
+{
+    (n <= number) & (number != NO_TEXT)
+}
+
+// A connector's direction, type and enum class.
+pub fn bad_type(dir: usize, kind: usize, class: usize) -> bool
+    ensures { λ r. ⌜ r ≡ badType dir kind class ⌝ }
+{
+    (DIR_OUT < dir) | (ENUM_KIND < kind) | ((kind != ENUM_KIND) & (class != 0))
 }
 
 // ---- 6
@@ -113,26 +136,15 @@ pub fn bad_attrs(s: &[u8], at: usize) -> bool
     requires { ⌜ at ≤ longestImage + connectorAttrs ⌝ }
     ensures { λ r. ⌜ r ≡ badAttrs (attrsAt (now (s .entry)) at) ⌝ }
 {
+    let kind = byte_at(s, at);
     let marks = byte_at(s, at + 1);
-    if bad_marks(byte_at(s, at), marks) {
-        return true;
-    }
-    if is_stray(marks, QUANTITY_BIT, at16(s, at + 2) as u64) {
-        return true;
-    }
-    if is_stray(marks, UNIT_BIT, at16(s, at + 4) as u64) {
-        return true;
-    }
-    if is_stray(marks, DISPLAY_UNIT_BIT, at16(s, at + 6) as u64) {
-        return true;
-    }
-    if is_stray(marks, MIN_BIT, at64(s, at + 8)) {
-        return true;
-    }
-    if is_stray(marks, MAX_BIT, at64(s, at + 16)) {
-        return true;
-    }
-    is_stray(marks, NOMINAL_BIT, at64(s, at + 24))
+    let quantity = at16(s, at + 2);
+    let unit = at16(s, at + 4);
+    let display = at16(s, at + 6);
+    let min = at64(s, at + 8);
+    let max = at64(s, at + 16);
+    let nominal = at64(s, at + 24);
+    bad_marks(kind, marks) | is_straying(marks, quantity, unit, display, min, max, nominal)
 }
 
 pub fn bad_head(s: &[u8], at: usize) -> bool
@@ -149,17 +161,10 @@ pub fn bad_connector(s: &[u8], at: usize) -> bool
     requires { ⌜ at ≤ longestImage ⌝ }
     ensures { λ r. ⌜ r ≡ badConnector (connectorAt (now (s .entry)) at) ⌝ }
 {
-    if DIR_OUT < byte_at(s, at + 11) {
-        return true;
-    }
+    let dir = byte_at(s, at + 11);
     let kind = byte_at(s, at + 12);
-    if ENUM_KIND < kind {
-        return true;
-    }
-    if kind == ENUM_KIND {
-        return false;
-    }
-    at32(s, at + 13) != 0
+    let class = at32(s, at + 13);
+    bad_type(dir, kind, class)
 }
 
 pub fn bad_contents(s: &[u8], f: Field) -> bool
@@ -187,39 +192,15 @@ pub fn bad_contents(s: &[u8], f: Field) -> bool
 
 // ---- 8; n is the number of texts
 
-// A text number that is in use where its bit is set.
-fn bad_text_number(n: usize, marks: usize, p: usize, number: usize) -> bool
-    requires { ⌜ (marks < 256) × (p < 8) ⌝ }
-    ensures { λ r. ⌜ r ≡ badTextNumber n marks p number ⌝ }
-{
-    if is_set(marks, p) {
-        return n <= number;
-    }
-    false
-}
-
 pub fn bad_text_numbers(n: usize, s: &[u8], at: usize) -> bool
     requires { ⌜ at ≤ longestImage + connectorAttrs ⌝ }
     ensures { λ r. ⌜ r ≡ badTextNumbers n (attrsAt (now (s .entry)) at) ⌝ }
 {
     let marks = byte_at(s, at + 1);
-    if bad_text_number(n, marks, QUANTITY_BIT, at16(s, at + 2)) {
-        return true;
-    }
-    if bad_text_number(n, marks, UNIT_BIT, at16(s, at + 4)) {
-        return true;
-    }
-    bad_text_number(n, marks, DISPLAY_UNIT_BIT, at16(s, at + 6))
-}
-
-// A text number that may mean none.
-fn bad_or_none(n: usize, number: usize) -> bool
-    ensures { λ r. ⌜ r ≡ badOrNone n number ⌝ }
-{
-    if n <= number {
-        return number != NO_TEXT;
-    }
-    false
+    let quantity = at16(s, at + 2);
+    let unit = at16(s, at + 4);
+    let display = at16(s, at + 6);
+    is_missing(n, marks, quantity, unit, display)
 }
 
 pub fn bad_reference(n: usize, s: &[u8], f: Field) -> bool

@@ -25,10 +25,11 @@ use oce_model::MOST_TEXTS;
 use oce_model::PORT_LENGTH;
 use oce_model::TEXT_TAG;
 ghost use mathlib.Core.Path.{_≡_};
-ghost use mathlib.Core.Bool.{not};
-ghost use Prim.Native.Nat.{_<_, _≤_};
+ghost use mathlib.Core.Bool.{not, _||_};
+ghost use Prim.Native.Nat.{_+_, _*_, _<_, _≤_};
+ghost use lib.Dec.{eqb, ltb};
 ghost use Rattle.base.specs.Lists.{any};
-ghost use Rattle.oce_model.specs.Format.{most, fixedLength, longestImage};
+ghost use Rattle.oce_model.specs.Format.{blockLength, portLength, mostPorts, most, fixedLength, longestImage};
 ghost use Rattle.oce_model.specs.Texts.{isTextByte};
 ghost use Rattle.oce_model.specs.Model.{inputCountAt, outputCountAt};
 ghost use Rattle.oce_model.specs.Refusals.{badTag, badBlockLength, badLength, tooMany, badText, fault};
@@ -69,6 +70,16 @@ fn output_count(s: &[u8], at: usize) -> usize
     at16(s, at + 11)
 }
 
+// A block's length by its port counts, and those counts.
+pub fn bad_ports(len: usize, inputs: usize, outputs: usize) -> bool
+    requires { ⌜ (inputs < 65536) × (outputs < 65536) ⌝ }
+    ensures { λ r. ⌜ r ≡ (not (eqb len (blockLength + portLength * (inputs + outputs))) || ltb mostPorts inputs || ltb mostPorts outputs) ⌝ }
+{
+    (len != BLOCK_LENGTH + PORT_LENGTH * (inputs + outputs))
+        | (MOST_PORTS < inputs)
+        | (MOST_PORTS < outputs)
+}
+
 fn bad_block_length(s: &[u8], f: Field) -> bool
     requires { ⌜ f .at ≤ longestImage ⌝ }
     ensures { λ r. ⌜ r ≡ badBlockLength (now (s .entry)) f ⌝ }
@@ -76,13 +87,7 @@ fn bad_block_length(s: &[u8], f: Field) -> bool
     let at = f.at;
     let inputs = input_count(s, at);
     let outputs = output_count(s, at);
-    if f.len != BLOCK_LENGTH + PORT_LENGTH * (inputs + outputs) {
-        return true;
-    }
-    if MOST_PORTS < inputs {
-        return true;
-    }
-    MOST_PORTS < outputs
+    bad_ports(f.len, inputs, outputs)
 }
 
 // The length of a tag's contents, where that is fixed.
@@ -150,7 +155,7 @@ fn is_text_byte(b: usize) -> bool
 }
 
 // A byte that no text may hold is among these.
-fn has_bad_byte(bytes: &[u8]) -> bool
+pub fn has_bad_byte(bytes: &[u8]) -> bool
     ensures { λ r. ⌜ r ≡ any (λ b. not (isTextByte b)) (now (bytes .entry)) ⌝ }
 {
     let mut i = 0;

@@ -4,6 +4,8 @@ use faults::bad_tag;
 use faults::is_at_fault;
 use numbers::at16;
 use numbers::byte_at;
+use numbers::read16;
+use numbers::wide;
 use oce_model::Field;
 use oce_model::LEADING_BYTES;
 ghost use mathlib.Core.Path.{_≡_};
@@ -44,6 +46,16 @@ fn field_at(s: &[u8], at: usize, prev: usize, n: usize) -> Field
     requires { ⌜ at ≤ longestImage ⌝ }
     ensures { λ r. ⌜ (r ≡ placed (now (s .entry)) at prev n) × (r .len < 65536) ⌝ }
 {
+    if at + LEADING_BYTES <= s.len() {
+        let tag = wide(s[at]);
+        return Field {
+            at,
+            tag,
+            len: read16(s, at + 1),
+            prev,
+            ord: ord_of(prev, n, tag),
+        };
+    }
     let tag = byte_at(s, at);
     Field {
         at,

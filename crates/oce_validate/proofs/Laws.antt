@@ -1,15 +1,17 @@
 -- Each way that a checking call can end gives what the definitions say.
 -- Assumes nothing.
-use Prim.Native.Nat.{ℕ, _+_, _*_, _<_, _≤_}
+use Prim.Native.Nat.{ℕ, zero, suc, _+_, _-_, _*_, _<_, _≤_}
 use native.Mathlib.Omega.{arith}
 use mathlib.Core.Path.{_≡_, refl, sym, ap, _∙_}
-use mathlib.Core.List.{List, [], _∷_}
+use mathlib.Core.List.{List, [], _∷_, _++_}
 use mathlib.Core.Option.{Option, none, some}
-use lib.ListN.{length}
+use lib.ListN.{length, take, drop}
+use lib.Seq.{take-append-seam}
 use mir.Syntax.{w32, w64}
 use mir.Val.{Fits}
 use borrow.Author.Tests.{lt-ltb, le-ltb}
-use Rattle.base.specs.Buffers.{startsWith}
+use Rattle.base.specs.Buffers.{startsWith, patch}
+use Rattle.base.proofs.Buffers.{startsWith-patch}
 use Rattle.oce_model.specs.Format.{textTag, blockTag, mostConnectors, mostBoundaryOutputs}
 use Rattle.oce_model.specs.Model.{modelOf}
 use Rattle.oce_model.specs.Refusals.{Refusal, refusal}
@@ -20,7 +22,8 @@ use Rattle.oce_diag.specs.Putting.{total}
 use Rattle.oce_diag.specs.declared.Counted.{Counted}
 use Rattle.oce_diag.specs.declared.Diagnostic.{Diagnostic}
 use Rattle.oce_diag.proofs.Diagnostics.{errors-warnings, no-errors, some-error}
-use Rattle.oce_diag.proofs.Putting.{put-errors, put-warnings, put-room}
+use Rattle.oce_diag.proofs.Putting.{put-errors, put-warnings, put-room, putAll-length}
+use Rattle.oce_diag.proofs.Encoding.{reportBytes-length}
 use Rattle.accept.specs.Layout.{Laid, Tabled, acceptance, accepts}
 use Rattle.accept.specs.declared.Layout.{Layout}
 use Rattle.accept.specs.declared.Acceptance.{Acceptance}
@@ -34,7 +37,7 @@ use Rattle.outcome.specs.declared.Answer.the-variants.{Refused, Checked}
 use Rattle.rules.specs.Ran.{Ready, Ran}
 use Rattle.moved.specs.Moved.{Bytes}
 use Rattle.moved.proofs.FilledImage.{filled-undone}
-use Rattle.oce_validate.specs.Answered.{Answered, Tallied}
+use Rattle.oce_validate.specs.Answered.{fewSlots, Answered, Tallied, Early}
 
 -- ---- a run of all rules
 
@@ -50,9 +53,29 @@ module _ {s ks ms ns b b′ : List ℕ} {c : Counted} (q : Ran (modelOf s) ks ms
       let k : total n ≡ length (reportOf s) = omega (arith, t .errors, t .warnings, errors-warnings (reportOf s)) in
       put-room (q .put) refl (rw k at l)
 
+  -- over a buffer of any length: it holds the report, if that fits
+  pub early-written : Early s b′
+  unfolding reportOf startsWith
+  early-written = record { bytes = holds }
+    where
+      holds : reportSize (reportOf s) ≤ length b′ → take (reportSize (reportOf s)) b′ ≡ reportBytes (reportOf s)
+      holds l =
+          let k : length b′ ≡ length b = ap length (q .put .bytes) ∙ putAll-length _ b 0 in
+          let e : b′ ≡ startsWith (reportBytes (reportOf s)) b = put-room (q .put) refl (omega arith) in
+          let n = reportBytes-length (reportOf s) in
+          rw (e, ← n) (take-append-seam (reportBytes (reportOf s)) _)
+
 -- ---- what is left in the buffers
 
 module _ {s ks ms ns : List ℕ} {c : Counted} (t : Tallied s ks ms ns c) where
+  -- the report is copied
+  pub early-copied : {e : List ℕ} (r : List ℕ) {r′ : List ℕ} (k : ℕ) → Early s e → k ≡ diagnosticSize * total c → k ≤ length e → r′ ≡ patch r 0 (take (k - 0) e) → r′ ≡ startsWith (reportBytes (reportOf s)) r
+  early-copied {e} r k h p l q =
+      let n : k ≡ reportSize (reportOf s) = p ∙ ap (λ x. diagnosticSize * x) (omega (arith, t .errors, t .warnings, errors-warnings (reportOf s))) in
+      let z : k - 0 ≡ reportSize (reportOf s) = omega arith in
+      let b : take (k - 0) e ≡ reportBytes (reportOf s) = rw z (h .bytes (omega arith)) in
+      q ∙ rw b (sym (startsWith-patch (reportBytes (reportOf s)) r))
+
   -- nothing to report
   pub report-empty : (r : List ℕ) → total c ≡ 0 → r ≡ startsWith (reportBytes (reportOf s)) r
   unfolding startsWith reportBytes
@@ -96,18 +119,19 @@ filled-written f {s} {ks} {ms} {ns} {c = c} n t h e k z =
 
 -- ---- columns
 
-pub ready : {s texts blocks ks ms ns : List ℕ} {l : Layout} → Laid s l → Tabled textTag s texts → Tabled blockTag s blocks
-    → mostConnectors + mostBoundaryOutputs ≤ length ks → mostConnectors + mostBoundaryOutputs ≤ length ms → width * (mostConnectors + mostBoundaryOutputs) ≤ length ns
-    → Ready s l texts blocks ks ms ns
-ready {s} h t b p q r = record {
-  laid = h;
-  text-table = t;
-  block-table = b;
-  room = record { kinds = omega (arith, p, few); marks = omega (arith, q, few); nums = omega (arith, r, few) };
-}
-  where
-    few : slotCount (modelOf s) ≤ mostConnectors + mostBoundaryOutputs
-    few = omega (arith, connectors-few h, connectors-counted h, boundary-outputs-few h, outputs-counted h)
+module _ {s texts blocks ks ms ns : List ℕ} {l : Layout} (h : Laid s l) (t : Tabled textTag s texts) (b : Tabled blockTag s blocks) where
+  -- columns for n slots
+  ready-for : (n : ℕ) → l .connectors .count + l .outputs .count ≤ n → n ≤ length ks → n ≤ length ms → width * n ≤ length ns → Ready s l texts blocks ks ms ns
+  ready-for n few p q r =
+      let e : slotCount (modelOf s) ≤ n = omega (arith, slots-counted h refl) in
+      record { laid = h; text-table = t; block-table = b; room = record { kinds = omega arith; marks = omega arith; nums = omega arith } }
+
+  pub ready-few : l .connectors .count + l .outputs .count ≤ fewSlots → fewSlots ≤ length ks → fewSlots ≤ length ms → width * fewSlots ≤ length ns → Ready s l texts blocks ks ms ns
+  ready-few = ready-for fewSlots
+
+  pub ready-most : mostConnectors + mostBoundaryOutputs ≤ length ks → mostConnectors + mostBoundaryOutputs ≤ length ms → width * (mostConnectors + mostBoundaryOutputs) ≤ length ns
+      → Ready s l texts blocks ks ms ns
+  ready-most = ready-for (mostConnectors + mostBoundaryOutputs) (omega (arith, connectors-few h, boundary-outputs-few h))
 
 -- the columns may be used again
 pub ready-again : {s texts blocks ks ms ns ks′ ms′ ns′ : List ℕ} {l : Layout} {c : Counted} → Ready s l texts blocks ks ms ns → Tallied s ks′ ms′ ns′ c → Ready s l texts blocks ks′ ms′ ns′

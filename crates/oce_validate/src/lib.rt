@@ -2,6 +2,7 @@
 use accept::Acceptance;
 use accept::Layout;
 use accept::accept;
+use base::copy_at;
 use filling::copy_image;
 use filling::fill_image;
 use oce_diag::Counted;
@@ -14,7 +15,7 @@ use outcome::Answer;
 use rules::run;
 use slots::WIDTH;
 ghost use mathlib.Core.Path.{_≡_};
-ghost use Prim.Native.Nat.{_*_, _≤_};
+ghost use Prim.Native.Nat.{_+_, _*_, _≤_};
 ghost use lib.ListN.{length};
 ghost use Rattle.base.specs.Buffers.{startsWith};
 ghost use Rattle.oce_model.specs.Format.{textTag, blockTag};
@@ -25,12 +26,20 @@ ghost use Rattle.outcome.specs.Filled.{filledOf};
 ghost use Rattle.outcome.specs.Answer.{reportOf, numbersOf, answer, filledAfter, reportAfter};
 ghost use Rattle.rules.specs.Ran.{Ready};
 ghost use Rattle.moved.specs.Moved.{Moved};
-ghost use Rattle.oce_validate.specs.Answered.{Answered, Tallied};
+ghost use Rattle.oce_validate.specs.Answered.{fewSlots, Answered, Tallied, Early};
 
 // No image has more slots: one for each connector and each boundary output.
 const MOST_SLOTS: usize = MOST_CONNECTORS + MOST_BOUNDARY_OUTPUTS;
 
+// Room for diagnostics that are written before it is known whether the report has room for them.
+const EARLY: usize = DIAGNOSTIC_SIZE * 64;
+
 const MOST_NUMBERS: usize = WIDTH * MOST_SLOTS;
+
+// So many slots have shorter columns, which are sooner cleared.
+const FEW_SLOTS: usize = 64;
+
+const FEW_NUMBERS: usize = WIDTH * FEW_SLOTS;
 
 // Counts the diagnostics of an image; the columns then hold its slots, filled.
 fn tally<'a>(
@@ -41,12 +50,12 @@ fn tally<'a>(
     ks: &mut [u8],
     ms: &mut [u8],
     ns: &mut [u64],
+    early: &mut [u8],
 ) -> Counted
     requires { ⌜ Ready (now image) layout (now texts) (now blocks) (now ks) (now ms) (now ns) ⌝ }
-    ensures { λ c. ⌜ Tallied (now (image .entry)) (now (ks .exit)) (now (ms .exit)) (now (ns .exit)) c ⌝ }
+    ensures { λ c. ⌜ Tallied (now (image .entry)) (now (ks .exit)) (now (ms .exit)) (now (ns .exit)) c × Early (now (image .entry)) (now (early .exit)) ⌝ }
 {
-    let mut nothing = [0u8; 0];
-    run(image, layout, texts, blocks, ks, ms, ns, &mut nothing)
+    run(image, layout, texts, blocks, ks, ms, ns, early)
 }
 
 // The filled image: the attributes of the columns where there is no error, otherwise the image's own.
@@ -80,12 +89,15 @@ fn leave_report<'a>(
     ms: &mut [u8],
     ns: &mut [u64],
     counted: Counted,
+    early: &[u8],
     report: &mut [u8],
 )
-    requires { ⌜ Ready (now image) layout (now texts) (now blocks) (now ks) (now ms) (now ns) × Tallied (now image) (now ks) (now ms) (now ns) counted × (diagnosticSize * total counted ≤ length (now report)) ⌝ }
+    requires { ⌜ Ready (now image) layout (now texts) (now blocks) (now ks) (now ms) (now ns) × Tallied (now image) (now ks) (now ms) (now ns) counted × Early (now image) (now early) × (diagnosticSize * total counted ≤ length (now report)) ⌝ }
     ensures { λ _. ⌜ now (report .exit) ≡ startsWith (reportBytes (reportOf (now (image .entry)))) (now (report .entry)) ⌝ }
 {
-    if counted.errors + counted.warnings == 0 {
+    let size = DIAGNOSTIC_SIZE * (counted.errors + counted.warnings);
+    if size <= early.len() {
+        copy_at(report, 0, &early[0..size]);
         return;
     }
     run(image, layout, texts, blocks, ks, ms, ns, report);
@@ -101,14 +113,26 @@ fn leave<'a>(
     ms: &mut [u8],
     ns: &mut [u64],
     counted: Counted,
+    early: &[u8],
     filled: &mut [u8],
     report: &mut [u8],
 ) -> Answer
-    requires { ⌜ Ready (now image) layout (now texts) (now blocks) (now ks) (now ms) (now ns) × Tallied (now image) (now ks) (now ms) (now ns) counted × (length (now image) ≤ length (now filled)) × (diagnosticSize * total counted ≤ length (now report)) ⌝ }
+    requires { ⌜ Ready (now image) layout (now texts) (now blocks) (now ks) (now ms) (now ns) × Tallied (now image) (now ks) (now ms) (now ns) counted × Early (now image) (now early) × (length (now image) ≤ length (now filled)) × (diagnosticSize * total counted ≤ length (now report)) ⌝ }
     ensures { λ a. ⌜ Answered (now (image .entry)) (now (filled .entry)) (now (report .entry)) a (now (filled .exit)) (now (report .exit)) ⌝ }
 {
     leave_filled(image, layout, ks, ms, ns, counted, filled);
-    leave_report(image, layout, texts, blocks, ks, ms, ns, counted, report);
+    leave_report(
+        image,
+        layout,
+        texts,
+        blocks,
+        ks,
+        ms,
+        ns,
+        counted,
+        early,
+        report,
+    );
     Answer::Checked {
         errors: counted.errors as u32,
         warnings: counted.warnings as u32,
@@ -130,7 +154,8 @@ fn check_over<'a>(
     requires { ⌜ Ready (now image) layout (now texts) (now blocks) (now ks) (now ms) (now ns) × (length (now image) ≤ length (now filled)) ⌝ }
     ensures { λ a. ⌜ Answered (now (image .entry)) (now (filled .entry)) (now (report .entry)) a (now (filled .exit)) (now (report .exit)) ⌝ }
 {
-    let counted = tally(image, layout, texts, blocks, ks, ms, ns);
+    let mut early = [0u8; EARLY];
+    let counted = tally(image, layout, texts, blocks, ks, ms, ns, &mut early);
     let size = DIAGNOSTIC_SIZE * (counted.errors + counted.warnings);
     if report.len() < size {
         return Answer::Refused {
@@ -147,6 +172,63 @@ fn check_over<'a>(
         ms,
         ns,
         counted,
+        &early,
+        filled,
+        report,
+    )
+}
+
+// An accepted image with few slots.
+fn check_few<'a>(
+    image: &'a [u8],
+    layout: Layout,
+    texts: &'a [usize],
+    blocks: &[usize],
+    filled: &mut [u8],
+    report: &mut [u8],
+) -> Answer
+    requires { ⌜ Laid (now image) layout × Tabled textTag (now image) (now texts) × Tabled blockTag (now image) (now blocks) × (layout .connectors .count + layout .outputs .count ≤ fewSlots) × (length (now image) ≤ length (now filled)) ⌝ }
+    ensures { λ a. ⌜ Answered (now (image .entry)) (now (filled .entry)) (now (report .entry)) a (now (filled .exit)) (now (report .exit)) ⌝ }
+{
+    let mut ks = [0u8; FEW_SLOTS];
+    let mut ms = [0u8; FEW_SLOTS];
+    let mut ns = [0u64; FEW_NUMBERS];
+    check_over(
+        image,
+        layout,
+        texts,
+        blocks,
+        &mut ks,
+        &mut ms,
+        &mut ns,
+        filled,
+        report,
+    )
+}
+
+// An accepted image with any number of slots.
+fn check_many<'a>(
+    image: &'a [u8],
+    layout: Layout,
+    texts: &'a [usize],
+    blocks: &[usize],
+    filled: &mut [u8],
+    report: &mut [u8],
+) -> Answer
+    requires { ⌜ Laid (now image) layout × Tabled textTag (now image) (now texts) × Tabled blockTag (now image) (now blocks) × (length (now image) ≤ length (now filled)) ⌝ }
+    ensures { λ a. ⌜ Answered (now (image .entry)) (now (filled .entry)) (now (report .entry)) a (now (filled .exit)) (now (report .exit)) ⌝ }
+{
+    let mut ks = [0u8; MOST_SLOTS];
+    let mut ms = [0u8; MOST_SLOTS];
+    let mut ns = [0u64; MOST_NUMBERS];
+    check_over(
+        image,
+        layout,
+        texts,
+        blocks,
+        &mut ks,
+        &mut ms,
+        &mut ns,
         filled,
         report,
     )
@@ -171,20 +253,10 @@ fn check_accepted<'a>(
             at: size as u32,
         };
     }
-    let mut ks = [0u8; MOST_SLOTS];
-    let mut ms = [0u8; MOST_SLOTS];
-    let mut ns = [0u64; MOST_NUMBERS];
-    check_over(
-        image,
-        layout,
-        texts,
-        blocks,
-        &mut ks,
-        &mut ms,
-        &mut ns,
-        filled,
-        report,
-    )
+    if layout.connectors.count + layout.outputs.count <= FEW_SLOTS {
+        return check_few(image, layout, texts, blocks, filled, report);
+    }
+    check_many(image, layout, texts, blocks, filled, report)
 }
 
 // Every byte string, accepted or refused.

@@ -23,7 +23,7 @@ use Rattle.oce_model.specs.Refusals.{badLength, badBlockLength}
 use Rattle.oce_model.specs.declared.Connection.{Connection}
 use Rattle.oce_model.specs.declared.Connector.{Connector}
 use Rattle.oce_model.specs.declared.BoundaryOutput.{BoundaryOutput}
-use Rattle.oce_model.proofs.Accepted.{Accepted, accepted, connectors-length, connections-length, inputs-length, outputs-length}
+use Rattle.oce_model.proofs.Accepted.{Accepted, accepted, fixed-length, connectors-length, connections-length, inputs-length, outputs-length}
 use Rattle.oce_model.proofs.Fields.{none-mem, nth, nth-mem, nth-tag}
 use Rattle.oce_model.proofs.Places.{field-end}
 use Rattle.oce_model.proofs.Records.{nth-at, connector-at, connection-at, external-at, input-at, output-at}
@@ -38,6 +38,16 @@ placed s acc t z i n o e k =
     let a : nth t s i .at ≡ startOf t s + z * i = nth-at s acc t z i n o e k in
     let f = field-end s (nth t s i) (nth-mem t s i k) in
     let h : length s ≤ longestImage = acc .short in
+    omega arith
+
+-- and ends inside it
+inside : (s : List ℕ) → Accepted s → (t z i : ℕ) → t ≢ textTag → t ≢ blockTag → leadingBytes + fixedLength t ≡ z → i < length (ofTag t (fields s)) → startOf t s + z * i + z ≤ length s
+inside s acc t z i n o e k =
+    let a : nth t s i .at ≡ startOf t s + z * i = nth-at s acc t z i n o e k in
+    let m = nth-mem t s i k in
+    let f = field-end s (nth t s i) m in
+    let q : nth t s i .tag ≡ t = nth-tag t s i k in
+    let w : nth t s i .len ≡ fixedLength t = fixed-length s (nth t s i) (λ r. n (sym q ∙ r)) (λ r. o (sym q ∙ r)) (none-mem (badLength s) (fields s) (acc .lengths) (nth t s i) m) ∙ ap fixedLength q in
     omega arith
 
 -- a connector from its parts
@@ -122,6 +132,10 @@ module _ {s : List ℕ} {l : Layout} (h : Laid s l) where
       unfolding layoutOf sectionOf fixedLength
       connector-near = rw (h .layout) (placed s acc connectorTag connectorSize i (omega arith) (omega arith) refl (rw (h .layout) at k))
 
+      pub connector-inside : {at : ℕ} → at ≡ l .connectors .start + connectorSize * i → at + connectorSize ≤ length s
+      unfolding layoutOf sectionOf fixedLength
+      connector-inside e = rw (e, h .layout) (inside s acc connectorTag connectorSize i (omega arith) (omega arith) refl (rw (h .layout) at k))
+
       connector-is : connectorAt s (l .connectors .start + connectorSize * i) ≡ connector (modelOf s) i
       unfolding layoutOf sectionOf
       connector-is =
@@ -141,6 +155,14 @@ module _ {s : List ℕ} {l : Layout} (h : Laid s l) where
       unfolding layoutOf sectionOf fixedLength
       connection-near = rw (h .layout) (placed s acc connectionTag connectionSize i (omega arith) (omega arith) refl (rw (h .layout) at k))
 
+      pub connection-from : {at : ℕ} → at ≡ l .connections .start + connectionSize * i → at + 3 + 4 ≤ length s
+      unfolding layoutOf sectionOf fixedLength
+      connection-from e = let f = inside s acc connectionTag connectionSize i (omega arith) (omega arith) refl (rw (h .layout) at k) in rw (e, h .layout) (omega (arith, f))
+
+      pub connection-to : {at : ℕ} → at ≡ l .connections .start + connectionSize * i → at + 7 + 4 ≤ length s
+      unfolding layoutOf sectionOf fixedLength
+      connection-to e = let f = inside s acc connectionTag connectionSize i (omega arith) (omega arith) refl (rw (h .layout) at k) in rw (e, h .layout) (omega (arith, f))
+
       connection-is : connectionAt s (l .connections .start + connectionSize * i) ≡ connection (modelOf s) i
       unfolding layoutOf sectionOf
       connection-is =
@@ -158,6 +180,10 @@ module _ {s : List ℕ} {l : Layout} (h : Laid s l) where
       unfolding layoutOf sectionOf fixedLength
       external-near = rw (h .layout) (placed s acc externalInputTag externalInputSize i (omega arith) (omega arith) refl (rw (h .layout) at k))
 
+      pub external-inside : {at : ℕ} → at ≡ l .externals .start + externalInputSize * i → at + 3 + 4 ≤ length s
+      unfolding layoutOf sectionOf fixedLength
+      external-inside e = let f = inside s acc externalInputTag externalInputSize i (omega arith) (omega arith) refl (rw (h .layout) at k) in rw (e, h .layout) (omega (arith, f))
+
       pub external-read : {at a : ℕ} → at ≡ l .externals .start + externalInputSize * i → a ≡ le32 s (at + 3) → a ≡ getD (modelOf s .externalInputs) i 0
       unfolding layoutOf sectionOf externalInputAt modelOf
       external-read e p =
@@ -169,6 +195,10 @@ module _ {s : List ℕ} {l : Layout} (h : Laid s l) where
       pub input-near : l .inputs .start + boundaryInputSize * i ≤ longestImage
       unfolding layoutOf sectionOf fixedLength
       input-near = rw (h .layout) (placed s acc boundaryInputTag boundaryInputSize i (omega arith) (omega arith) refl (rw (h .layout) at k))
+
+      pub input-inside : {at : ℕ} → at ≡ l .inputs .start + boundaryInputSize * i → at + 3 + 2 ≤ length s
+      unfolding layoutOf sectionOf fixedLength
+      input-inside e = let f = inside s acc boundaryInputTag boundaryInputSize i (omega arith) (omega arith) refl (rw (h .layout) at k) in rw (e, h .layout) (omega (arith, f))
 
       input-is : boundaryInputAt s (l .inputs .start + boundaryInputSize * i) ≡ boundaryInput (modelOf s) i
       unfolding layoutOf sectionOf
@@ -189,6 +219,14 @@ module _ {s : List ℕ} {l : Layout} (h : Laid s l) where
       pub output-near : l .outputs .start + boundaryOutputSize * i ≤ longestImage
       unfolding layoutOf sectionOf fixedLength
       output-near = rw (h .layout) (placed s acc boundaryOutputTag boundaryOutputSize i (omega arith) (omega arith) refl (rw (h .layout) at k))
+
+      pub output-inside : {at : ℕ} → at ≡ l .outputs .start + boundaryOutputSize * i → at + 3 + 2 ≤ length s
+      unfolding layoutOf sectionOf fixedLength
+      output-inside e = let f = inside s acc boundaryOutputTag boundaryOutputSize i (omega arith) (omega arith) refl (rw (h .layout) at k) in rw (e, h .layout) (omega (arith, f))
+
+      pub output-source : {at : ℕ} → at ≡ l .outputs .start + boundaryOutputSize * i → at + 5 + 4 ≤ length s
+      unfolding layoutOf sectionOf fixedLength
+      output-source e = let f = inside s acc boundaryOutputTag boundaryOutputSize i (omega arith) (omega arith) refl (rw (h .layout) at k) in rw (e, h .layout) (omega (arith, f))
 
       output-is : boundaryOutputAt s (l .outputs .start + boundaryOutputSize * i) ≡ boundaryOutput (modelOf s) i
       unfolding layoutOf sectionOf

@@ -5,9 +5,11 @@ use accept::Section;
 use numbers::at16;
 use numbers::at32;
 use numbers::at64;
-use numbers::byte_at;
 use numbers::int_of_bits;
+use numbers::read16;
+use numbers::read32;
 use numbers::real_of_bits;
+use numbers::wide;
 use oce_model::BOUNDARY_INPUT_ATTRS;
 use oce_model::BOUNDARY_INPUT_SIZE;
 use oce_model::BOUNDARY_OUTPUT_ATTRS;
@@ -28,7 +30,7 @@ use oce_model::RealAttrs;
 ghost use mathlib.Core.Path.{_≡_};
 ghost use Prim.Native.Nat.{_+_, _*_, _<_, _≤_};
 ghost use lib.ListN.{length, getD};
-ghost use Rattle.numbers.specs.Bytes.{le32};
+ghost use Rattle.numbers.specs.Bytes.{byte, le32};
 ghost use Rattle.oce_model.specs.Format.{longestImage, portLength, mostPorts, blockTag, connectorTag, connectionTag, externalInputTag, boundaryInputTag, boundaryOutputTag, connectorSize, connectionSize, externalInputSize, boundaryInputSize, boundaryOutputSize, connectorAttrs};
 ghost use Rattle.oce_model.specs.Attributes.{attrsAt};
 ghost use Rattle.oce_model.specs.Model.{modelOf, inputCountAt, outputCountAt, blockAt, connectorAt, block, connector, connection, boundaryInput, boundaryOutput};
@@ -43,19 +45,27 @@ fn record_at(section: Section, size: usize, i: usize) -> usize
     section.start + size * i
 }
 
+// A byte of the image.
+fn byte_in(image: &[u8], at: usize) -> usize
+    requires { ⌜ at < length (now image) ⌝ }
+    ensures { λ r. ⌜ (r ≡ byte (now (image .entry)) at) × (r < 256) ⌝ }
+{
+    wide(image[at])
+}
+
 // ---- connectors
 
 fn connector_at(image: &[u8], at: usize) -> Connector
-    requires { ⌜ at ≤ longestImage ⌝ }
+    requires { ⌜ (at ≤ longestImage) × (at + connectorSize ≤ length (now image)) ⌝ }
     ensures { λ r. ⌜ (r ≡ connectorRead (connectorAt (now (image .entry)) at)) × (r .iri < 65536) ⌝ }
 {
     Connector {
-        id: ConnectorId(at32(image, at + 3) as u32),
-        block: BlockId(at32(image, at + 7) as u32),
-        dir: byte_at(image, at + 11),
-        kind: byte_at(image, at + 12),
-        class: at32(image, at + 13),
-        iri: at16(image, at + 17),
+        id: ConnectorId(read32(image, at + 3) as u32),
+        block: BlockId(read32(image, at + 7) as u32),
+        dir: byte_in(image, at + 11),
+        kind: byte_in(image, at + 12),
+        class: read32(image, at + 13),
+        iri: read16(image, at + 17),
     }
 }
 
@@ -85,8 +95,8 @@ pub fn connection(image: &[u8], layout: Layout, k: usize) -> Connection
     let c = layout.connections;
     let at = record_at(c, CONNECTION_SIZE, k);
     Connection {
-        from: at32(image, at + 3) as u32,
-        to: at32(image, at + 7) as u32,
+        from: read32(image, at + 3) as u32,
+        to: read32(image, at + 7) as u32,
     }
 }
 
@@ -96,7 +106,7 @@ pub fn external_input(image: &[u8], layout: Layout, i: usize) -> usize
     ensures { λ r. ⌜ (r ≡ getD (modelOf (now (image .entry)) .externalInputs) i 0) × (r < 4294967296) ⌝ }
 {
     let c = layout.externals;
-    at32(image, record_at(c, EXTERNAL_INPUT_SIZE, i) + 3)
+    read32(image, record_at(c, EXTERNAL_INPUT_SIZE, i) + 3)
 }
 
 // ---- boundary records
@@ -107,7 +117,7 @@ pub fn boundary_input_iri(image: &[u8], layout: Layout, i: usize) -> usize
     ensures { λ r. ⌜ (r ≡ boundaryInput (modelOf (now (image .entry))) i .iri) × (r < 65536) ⌝ }
 {
     let c = layout.inputs;
-    at16(image, record_at(c, BOUNDARY_INPUT_SIZE, i) + 3)
+    read16(image, record_at(c, BOUNDARY_INPUT_SIZE, i) + 3)
 }
 
 // Where its attributes stand.
@@ -126,8 +136,8 @@ pub fn boundary_output(image: &[u8], layout: Layout, i: usize) -> BoundaryOutput
     let c = layout.outputs;
     let at = record_at(c, BOUNDARY_OUTPUT_SIZE, i);
     BoundaryOutput {
-        iri: at16(image, at + 3),
-        source: ConnectorId(at32(image, at + 5) as u32),
+        iri: read16(image, at + 3),
+        source: ConnectorId(read32(image, at + 5) as u32),
     }
 }
 

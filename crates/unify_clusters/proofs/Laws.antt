@@ -5,6 +5,8 @@ use native.Mathlib.Omega.{arith}
 use mathlib.Core.Path.{_≡_, sym, _∙_}
 use mathlib.Core.List.{List}
 use lib.ListN.{length, replicate, length-replicate, getD-replicate}
+use mir.Syntax.{w64}
+use mir.Val.{Fits}
 use borrow.Author.Tests.{eq-eqb, ne-eqb}
 use Rattle.oce_model.specs.Format.{textTag, mostConnectors}
 use Rattle.oce_model.specs.Model.{Model, modelOf, connectorCount}
@@ -19,7 +21,7 @@ use Rattle.links.specs.Links.{linkCount, Empty, Linked}
 use Rattle.roots.specs.Roots.{Stage, Unified as Rooted}
 use Rattle.propagated.specs.Propagated.{Propagated, Stage as Filled}
 use Rattle.propagated.proofs.Laws.{linked-headed}
-use Rattle.unify_clusters.specs.Unified.{mostLinks, wholeRule6, Unified}
+use Rattle.unify_clusters.specs.Unified.{mostLinks, fewConnectors, fewLinks, wholeRule6, Unified}
 
 -- ---- roots, and the test of their ranges
 
@@ -52,27 +54,41 @@ module _ {image : List ℕ} {layout : Layout} {texts head next : List ℕ} {s : 
 -- ---- fresh arrays
 
 module _ {s : List ℕ} {l : Layout} (h : Laid s l) where
-  links-few : linkCount (modelOf s) ≤ mostLinks
-  links-few = omega (arith, connections-counted h, outputs-counted h, connections-few h, boundary-outputs-few h)
-
-  connectors-most : connectorCount (modelOf s) ≤ mostConnectors
+  pub connectors-most : connectorCount (modelOf s) ≤ mostConnectors
   connectors-most = omega (arith, connectors-counted h, connectors-few h)
 
-  pub heads-empty : Empty (modelOf s) (replicate mostConnectors mostLinks)
-  heads-empty = record { none = λ r k. let e : r < mostConnectors = omega (arith, connectors-most) in rw (getD-replicate {A = ℕ} mostConnectors r mostLinks 0 e) links-few }
+  pub links-most : linkCount (modelOf s) ≤ mostLinks
+  links-most = omega (arith, connections-counted h, outputs-counted h, connections-few h, boundary-outputs-few h)
 
-  pub heads-room : connectorCount (modelOf s) ≤ length {A = ℕ} (replicate mostConnectors mostLinks)
-  heads-room = rw (length-replicate {A = ℕ} mostConnectors mostLinks) connectors-most
+  pub few-connectors : l .connectors .count ≤ fewConnectors → connectorCount (modelOf s) ≤ fewConnectors
+  few-connectors k = omega (arith, connectors-counted h)
 
-  pub nexts-room : linkCount (modelOf s) ≤ length {A = ℕ} (replicate mostLinks 0)
-  nexts-room = rw (length-replicate {A = ℕ} mostLinks 0) links-few
+  pub few-links : l .connections .count + l .outputs .count ≤ fewLinks → linkCount (modelOf s) ≤ fewLinks
+  few-links k = omega (arith, connections-counted h, outputs-counted h)
 
-  members-room : linkCount (modelOf s) < length {A = ℕ} (replicate (mostLinks + 1) 0)
-  members-room = rw (length-replicate {A = ℕ} (mostLinks + 1) 0) (omega (arith, links-few))
+  pub members-most : linkCount (modelOf s) < mostLinks + 1
+  members-most = omega (arith, links-most)
 
-  pub stage-fresh : {texts head next : List ℕ} {n : ℕ} {ks ms ns : List ℕ} → Tabled textTag s texts → Linked (modelOf s) 0 head next → Read (modelOf s) n ks ms ns
-      → Stage s l texts head next n ks ms ns (replicate (mostLinks + 1) 0)
-  stage-fresh t k r = record { laid = h; tabled = t; linked = k; count = r .count; room = r .room; wide = members-room }
+  pub few-members : l .connections .count + l .outputs .count ≤ fewLinks → linkCount (modelOf s) < fewLinks + 1
+  few-members k = omega (arith, few-links k)
+
+  pub links-fit : Fits w64 (l .connections .count + l .outputs .count)
+  links-fit = record { fits = omega (arith, connections-few h, boundary-outputs-few h) }
+
+  -- heads for n connectors, and numbers for k links
+  pub heads-empty : {n : ℕ} → connectorCount (modelOf s) ≤ n → Empty (modelOf s) (replicate n mostLinks)
+  heads-empty {n} few = record { none = λ r k. let e : r < n = omega arith in rw (getD-replicate {A = ℕ} n r mostLinks 0 e) links-most }
+
+  pub heads-room : {n : ℕ} → connectorCount (modelOf s) ≤ n → connectorCount (modelOf s) ≤ length {A = ℕ} (replicate n mostLinks)
+  heads-room {n} few = rw (length-replicate {A = ℕ} n mostLinks) few
+
+  pub nexts-room : {k : ℕ} → linkCount (modelOf s) ≤ k → linkCount (modelOf s) ≤ length {A = ℕ} (replicate k 0)
+  nexts-room {k} few = rw (length-replicate {A = ℕ} k 0) few
+
+  -- and room for w members
+  pub stage-fresh : {texts head next : List ℕ} {n w : ℕ} {ks ms ns : List ℕ} → Tabled textTag s texts → Linked (modelOf s) 0 head next → Read (modelOf s) n ks ms ns
+      → linkCount (modelOf s) < w → Stage s l texts head next n ks ms ns (replicate w 0)
+  stage-fresh {w = w} t v r few = record { laid = h; tabled = t; linked = v; count = r .count; room = r .room; wide = rw (length-replicate {A = ℕ} w 0) few }
 
 pub unified-count : {m : Model} {s : ℕ} {ks ms ns b : List ℕ} {c : Counted} {b′ : List ℕ} {c′ : Counted} → Unified m s ks ms ns b c b′ c′ → Unified m (slotCount m) ks ms ns b c b′ c′
 unified-count v = rw (← v .count) v

@@ -18,6 +18,13 @@ use Rattle.slots.specs.Columns.{slotCount, view, Room}
 abbrev pub mostLinks : ℕ
 mostLinks = mostConnections + mostBoundaryOutputs
 
+-- so many have shorter arrays
+abbrev pub fewConnectors : ℕ
+fewConnectors = 64
+
+abbrev pub fewLinks : ℕ
+fewLinks = 128
+
 -- what rule 6 adds to a list that holds e errors: 'If after all roots the list holds no error, every root is tested in turn: 8'
 unfoldable pub wholeRule6 : Model → ℕ → List Diagnostic
 wholeRule6 m e = cond (eqb (e + errors (rule6 m)) 0) (rule6 m ++ propagated m) (rule6 m)

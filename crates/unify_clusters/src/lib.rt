@@ -18,7 +18,7 @@ ghost use Rattle.degrees.specs.Columns.{Degrees};
 ghost use Rattle.slots.specs.Columns.{slotCount, Room};
 ghost use Rattle.slots_image.specs.Loading.{Read};
 ghost use Rattle.roots.specs.Roots.{Stage};
-ghost use Rattle.unify_clusters.specs.Unified.{Unified};
+ghost use Rattle.unify_clusters.specs.Unified.{fewConnectors, fewLinks, Unified};
 
 // The most links that an accepted image has.
 const MOST_LINKS: usize = MOST_CONNECTIONS + MOST_BOUNDARY_OUTPUTS;
@@ -28,6 +28,13 @@ const MOST_MEMBERS: usize = MOST_LINKS + 1;
 
 // A number that is no link's.
 const NO_LINK: usize = MOST_LINKS;
+
+// So many have shorter arrays, which are sooner cleared.
+const FEW_CONNECTORS: usize = 64;
+
+const FEW_LINKS: usize = 128;
+
+const FEW_MEMBERS: usize = FEW_LINKS + 1;
 
 // All roots in turn, over links in lists.
 fn all_roots<'a>(
@@ -67,8 +74,44 @@ fn all_roots<'a>(
     c
 }
 
-// The links in lists, and all roots in turn.
-fn linked_roots<'a>(
+// The links in lists, and all roots in turn, where connectors and links are few.
+fn few_linked_roots<'a>(
+    image: &'a [u8],
+    layout: Layout,
+    texts: &'a [usize],
+    degrees: &[u32],
+    s: usize,
+    ks: &[u8],
+    ms: &mut [u8],
+    ns: &mut [u64],
+    report: &mut [u8],
+    counted: Counted,
+) -> Counted
+    requires { ⌜ Laid (now image) layout × Tabled textTag (now image) (now texts) × Degrees (modelOf (now image)) (now degrees) × Read (modelOf (now image)) s (now ks) (now ms) (now ns) × (total counted ≤ 1000000) × (layout .connectors .count ≤ fewConnectors) × (layout .connections .count + layout .outputs .count ≤ fewLinks) ⌝ }
+    ensures { λ c. ⌜ Unified (modelOf (now (image .entry))) s (now (ks .entry)) (now (ms .exit)) (now (ns .exit)) (now (report .entry)) counted (now (report .exit)) c ⌝ }
+{
+    let mut head = [NO_LINK; FEW_CONNECTORS];
+    let mut next = [0usize; FEW_LINKS];
+    let mut members = [0usize; FEW_MEMBERS];
+    link_all(image, layout, degrees, &mut head, &mut next);
+    all_roots(
+        image,
+        layout,
+        texts,
+        &head,
+        &next,
+        s,
+        ks,
+        ms,
+        ns,
+        &mut members,
+        report,
+        counted,
+    )
+}
+
+// The same for any number of them.
+fn many_linked_roots<'a>(
     image: &'a [u8],
     layout: Layout,
     texts: &'a [usize],
@@ -98,6 +141,52 @@ fn linked_roots<'a>(
         ms,
         ns,
         &mut members,
+        report,
+        counted,
+    )
+}
+
+// The links in lists, and all roots in turn.
+fn linked_roots<'a>(
+    image: &'a [u8],
+    layout: Layout,
+    texts: &'a [usize],
+    degrees: &[u32],
+    s: usize,
+    ks: &[u8],
+    ms: &mut [u8],
+    ns: &mut [u64],
+    report: &mut [u8],
+    counted: Counted,
+) -> Counted
+    requires { ⌜ Laid (now image) layout × Tabled textTag (now image) (now texts) × Degrees (modelOf (now image)) (now degrees) × Read (modelOf (now image)) s (now ks) (now ms) (now ns) × (total counted ≤ 1000000) ⌝ }
+    ensures { λ c. ⌜ Unified (modelOf (now (image .entry))) s (now (ks .entry)) (now (ms .exit)) (now (ns .exit)) (now (report .entry)) counted (now (report .exit)) c ⌝ }
+{
+    if layout.connectors.count <= FEW_CONNECTORS {
+        if layout.connections.count + layout.outputs.count <= FEW_LINKS {
+            return few_linked_roots(
+                image,
+                layout,
+                texts,
+                degrees,
+                s,
+                ks,
+                ms,
+                ns,
+                report,
+                counted,
+            );
+        }
+    }
+    many_linked_roots(
+        image,
+        layout,
+        texts,
+        degrees,
+        s,
+        ks,
+        ms,
+        ns,
         report,
         counted,
     )

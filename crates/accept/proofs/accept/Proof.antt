@@ -1,8 +1,8 @@
--- `accept::accept` meets its contract: a refusal, or the layout with both tables.
+-- `accept::accept` meets its contract: length, framing and tags, then the fields.
 -- Assumes nothing.
 use borrow.Author.Needs.{needs}
 use Rattle.oce_model.specs.Format.{most}
-use Rattle.accept.proofs.Answers.{fine-accepted, answer-refused, table-kept, answer-accepted, table-written}
+use Rattle.accept.proofs.Answers.{too-short, too-long, cut-small, bad-small, refused-cut, refused-bad, whole-framing, answer-refused, short-table, long-table, cut-table, bad-table}
 use Rattle.accept.proofs.accept.Statement.{statement}
 use Rattle.accept.proofs.accept.Tie as tie
 
@@ -11,9 +11,16 @@ unfolding most
 accept-spec =
     tie.close
     (tie.spec
+    (λ c. search (answer-refused, too-short, short-table, needs))
+    (λ c. search (answer-refused, too-long, long-table, needs))
     (λ c κs. search needs)
     (λ c. search needs)
+    (λ c. search (cut-small, needs))
     (λ c. search needs)
-    (λ c κs. search (fine-accepted, needs))
-    (λ c. search (answer-refused, table-kept, needs))
-    (λ c. search (answer-accepted, table-written, needs)))
+    (λ c. search needs)
+    (λ c. search (bad-small, needs))
+    (λ c. search needs)
+    (λ c κs. search (whole-framing, needs))
+    (λ c. search (answer-refused, refused-cut, cut-table, needs))
+    (λ c. search (answer-refused, refused-bad, bad-table, needs))
+    (λ c. search needs))

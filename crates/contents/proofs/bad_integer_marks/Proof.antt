@@ -1,7 +1,7 @@
--- `contents::bad_integer_marks` meets its contract: the first of the five bits that is set, else the last.
+-- `contents::bad_integer_marks` meets its contract: each bit.
 -- Assumes nothing.
 use borrow.Author.Needs.{needs}
-use Rattle.contents.proofs.Tests.{tests}
+use Rattle.contents.proofs.Tests.{same-or}
 use Rattle.contents.proofs.bad_integer_marks.Statement.{statement}
 use Rattle.contents.proofs.bad_integer_marks.Tie as tie
 
@@ -10,12 +10,8 @@ bad-integer-marks-spec =
     tie.close
     (tie.spec
     (λ c κs. search needs)
-    (λ c. search tests)
     (λ c κs. search needs)
-    (λ c. search tests)
     (λ c κs. search needs)
-    (λ c. search tests)
     (λ c κs. search needs)
-    (λ c. search tests)
     (λ c κs. search needs)
-    (λ c. search tests))
+    (λ c. search (same-or, needs)))

@@ -1,7 +1,7 @@
--- `contents::bad_text_number` meets its contract: a bit that is not set has no text number in use.
+-- `contents::bad_text_number` meets its contract: the bit and the number.
 -- Assumes nothing.
 use borrow.Author.Needs.{needs}
-use Rattle.contents.proofs.Tests.{tests}
+use Rattle.contents.proofs.Tests.{same-and}
 use Rattle.contents.proofs.bad_text_number.Statement.{statement}
 use Rattle.contents.proofs.bad_text_number.Tie as tie
 
@@ -10,5 +10,4 @@ bad-text-number-spec =
     tie.close
     (tie.spec
     (λ c κs. search needs)
-    (λ c. search tests)
-    (λ c. search tests))
+    (λ c. search (same-and, needs)))

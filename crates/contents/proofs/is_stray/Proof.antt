@@ -1,7 +1,7 @@
--- `contents::is_stray` meets its contract: a bit that is set has no stray number.
+-- `contents::is_stray` meets its contract: the bit and the number.
 -- Assumes nothing.
 use borrow.Author.Needs.{needs}
-use Rattle.contents.proofs.Tests.{tests}
+use Rattle.contents.proofs.Tests.{same-not, same-and}
 use Rattle.contents.proofs.is_stray.Statement.{statement}
 use Rattle.contents.proofs.is_stray.Tie as tie
 
@@ -10,5 +10,4 @@ is-stray-spec =
     tie.close
     (tie.spec
     (λ c κs. search needs)
-    (λ c. search tests)
-    (λ c. search tests))
+    (λ c. search (same-and, same-not, needs)))

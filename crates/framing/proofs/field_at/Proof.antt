@@ -1,4 +1,4 @@
--- `framing::field_at` meets its contract: the parts are read one by one.
+-- `framing::field_at` meets its contract: the parts are read one by one, without a test for each where all three bytes are there.
 -- Assumes nothing.
 use Prim.Native.Nat.{ℕ, _+_}
 use mathlib.Core.List.{List}
@@ -20,6 +20,13 @@ pub field-at-spec : {M : Type 1} → statement M
 field-at-spec =
     tie.close
     (tie.spec
+    (λ c. search needs)
+    (λ c. search needs)
+    (λ c κs. search needs)
+    (λ c. search needs)
+    (λ c κs. search needs)
+    (λ c κs. search needs)
+    (λ c. search (parts, needs))
     (λ c κs. search needs)
     (λ c. search needs)
     (λ c κs. search needs)

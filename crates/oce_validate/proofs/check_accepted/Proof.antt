@@ -1,7 +1,7 @@
 -- `oce_validate::check_accepted` meets its contract.
 -- Assumes nothing.
 use borrow.Author.Needs.{needs}
-use Rattle.oce_validate.proofs.Laws.{short-filled, image-small, ready}
+use Rattle.oce_validate.proofs.Laws.{short-filled, image-small, slots-few}
 use Rattle.oce_validate.proofs.check_accepted.Statement.{statement}
 use Rattle.oce_validate.proofs.check_accepted.Tie as tie
 
@@ -11,10 +11,12 @@ check-accepted-spec =
     (tie.spec
     (λ c. search (image-small, needs))
     (λ c. search (short-filled, needs))
+    (λ c. search (slots-few, needs))
+    (λ c κs. search needs)
     (λ c. search needs)
     (λ c. search needs)
     (λ c. search needs)
-    (λ c κs. (search (ready, needs), search needs))
+    (λ c κs. search needs)
     (λ c. search needs)
     (λ c. search needs)
     (λ c. search needs))

@@ -1,7 +1,7 @@
 -- `records::boundary_input_iri` meets its contract.
 -- Assumes nothing.
 use borrow.Author.Needs.{needs}
-use Rattle.records.proofs.Laws.{input-near, input-iri}
+use Rattle.records.proofs.Laws.{input-near, input-inside, input-iri}
 use Rattle.records.proofs.boundary_input_iri.Statement.{statement}
 use Rattle.records.proofs.boundary_input_iri.Tie as tie
 
@@ -11,5 +11,5 @@ boundary-input-iri-spec =
     (tie.spec
     (λ c κs. search (input-near, needs))
     (λ c. search needs)
-    (λ c κs. search needs)
+    (λ c κs. search (input-inside, needs))
     (λ c. search (input-iri, needs)))

@@ -1,7 +1,7 @@
 -- `records::boundary_output` meets its contract.
 -- Assumes nothing.
 use borrow.Author.Needs.{needs}
-use Rattle.records.proofs.Laws.{output-near, output-read}
+use Rattle.records.proofs.Laws.{output-near, output-inside, output-source, output-read}
 use Rattle.records.proofs.boundary_output.Statement.{statement}
 use Rattle.records.proofs.boundary_output.Tie as tie
 
@@ -11,8 +11,8 @@ boundary-output-spec =
     (tie.spec
     (λ c κs. search (output-near, needs))
     (λ c. search needs)
-    (λ c κs. search needs)
+    (λ c κs. search (output-inside, needs))
     (λ c. search needs)
-    (λ c κs. search needs)
+    (λ c κs. search (output-source, needs))
     (λ c. search needs)
     (λ c. search (output-read, needs)))

@@ -1,7 +1,7 @@
 -- `records::connection` meets its contract.
 -- Assumes nothing.
 use borrow.Author.Needs.{needs}
-use Rattle.records.proofs.Laws.{connection-near, connection-read}
+use Rattle.records.proofs.Laws.{connection-near, connection-from, connection-to, connection-read}
 use Rattle.records.proofs.connection.Statement.{statement}
 use Rattle.records.proofs.connection.Tie as tie
 
@@ -11,9 +11,9 @@ connection-spec =
     (tie.spec
     (λ c κs. search (connection-near, needs))
     (λ c. search needs)
-    (λ c κs. search needs)
+    (λ c κs. search (connection-from, needs))
     (λ c. search needs)
     (λ c. search needs)
-    (λ c κs. search needs)
+    (λ c κs. search (connection-to, needs))
     (λ c. search needs)
     (λ c. search (connection-read, needs)))

@@ -1,7 +1,7 @@
 -- `records::external_input` meets its contract.
 -- Assumes nothing.
 use borrow.Author.Needs.{needs}
-use Rattle.records.proofs.Laws.{external-near, external-read}
+use Rattle.records.proofs.Laws.{external-near, external-inside, external-read}
 use Rattle.records.proofs.external_input.Statement.{statement}
 use Rattle.records.proofs.external_input.Tie as tie
 
@@ -11,5 +11,5 @@ external-input-spec =
     (tie.spec
     (λ c κs. search (external-near, needs))
     (λ c. search needs)
-    (λ c κs. search needs)
+    (λ c κs. search (external-inside, needs))
     (λ c. search (external-read, needs)))

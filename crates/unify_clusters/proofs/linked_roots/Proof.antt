@@ -1,7 +1,7 @@
 -- `unify_clusters::linked_roots` meets its contract.
 -- Assumes nothing.
 use borrow.Author.Needs.{needs}
-use Rattle.unify_clusters.proofs.Laws.{heads-empty, heads-room, nexts-room, stage-fresh}
+use Rattle.unify_clusters.proofs.Laws.{links-fit}
 use Rattle.unify_clusters.proofs.linked_roots.Statement.{statement}
 use Rattle.unify_clusters.proofs.linked_roots.Tie as tie
 
@@ -9,13 +9,13 @@ pub linked-roots-spec : {M : Type 1} → statement M
 linked-roots-spec =
     tie.close
     (tie.spec
+    (λ c. search (links-fit, needs))
+    (λ c κs. search needs)
     (λ c. search needs)
     (λ c. search needs)
-    (λ c κs. (search needs, search needs, search heads-empty, search heads-room, search nexts-room))
     (λ c. search needs)
     (λ c. search needs)
-    (λ c. search needs)
-    (λ c κs. (search stage-fresh, search needs, search needs))
+    (λ c κs. search needs)
     (λ c. search needs)
     (λ c. search needs)
     (λ c. search needs)

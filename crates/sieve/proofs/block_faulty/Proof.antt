@@ -1,0 +1,22 @@
+-- `sieve::block_faulty` meets its contract: its length, then the rest.
+-- Assumes nothing.
+use borrow.Author.Needs.{needs}
+use Rattle.sieve.proofs.Laws.{block-short, block-are}
+use Rattle.sieve.proofs.block_faulty.Statement.{statement}
+use Rattle.sieve.proofs.block_faulty.Tie as tie
+
+pub block-faulty-spec : {M : Type 1} → statement M
+block-faulty-spec =
+    tie.close
+    (tie.spec
+    (λ c. search (block-short, needs))
+    (λ c. search needs)
+    (λ c κs. search needs)
+    (λ c. search needs)
+    (λ c κs. search needs)
+    (λ c κs. search needs)
+    (λ c κs. search needs)
+    (λ c. search needs)
+    (λ c κs. search needs)
+    (λ c κs. search needs)
+    (λ c. search (block-are, needs)))

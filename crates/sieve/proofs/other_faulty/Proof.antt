@@ -1,0 +1,19 @@
+-- `sieve::other_faulty` meets its contract: each refusal.
+-- Assumes nothing.
+use borrow.Author.Needs.{needs}
+use Rattle.contents.proofs.Tests.{same-or}
+use Rattle.sieve.specs.Faulty.{atFault}
+use Rattle.sieve.proofs.other_faulty.Statement.{statement}
+use Rattle.sieve.proofs.other_faulty.Tie as tie
+
+pub other-faulty-spec : {M : Type 1} → statement M
+unfolding atFault
+other-faulty-spec =
+    tie.close
+    (tie.spec
+    (λ c κs. search needs)
+    (λ c κs. search needs)
+    (λ c κs. search needs)
+    (λ c κs. search needs)
+    (λ c κs. search needs)
+    (λ c. search (same-or, needs)))
