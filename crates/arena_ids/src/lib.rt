@@ -40,7 +40,7 @@ fn port_fault(
     report: &mut [u8],
     counted: Counted,
 ) -> Counted
-    requires { ⌜ (ids ≤ longestImage + longestImage) × (j ≤ longestImage) × (total counted ≤ 1000000) ⌝ }
+    requires { ⌜ (ids ≤ longestImage + longestImage) × (j ≤ longestImage) × (ids + portLength * j + portLength ≤ length (now image)) × (total counted ≤ 1000000) ⌝ }
     ensures { λ r. ⌜ Put (now (report .entry)) counted (portFault n subject detail (now (image .entry)) ids j) (now (report .exit)) r × (total r ≤ total counted + 1) ⌝ }
 {
     let id = port(image, ids, j);
@@ -63,7 +63,7 @@ fn port_faults(
     report: &mut [u8],
     counted: Counted,
 ) -> Counted
-    requires { ⌜ (ids ≤ longestImage + longestImage) × (count ≤ mostPorts) × (total counted ≤ 900000) ⌝ }
+    requires { ⌜ (ids ≤ longestImage + longestImage) × (count ≤ mostPorts) × (ids + portLength * count ≤ length (now image)) × (total counted ≤ 900000) ⌝ }
     ensures { λ r. ⌜ Put (now (report .entry)) counted (each count (portFault n subject detail (now (image .entry)) ids)) (now (report .exit)) r × (total r ≤ total counted + 1 * count) ⌝ }
 {
     let mut c = counted;
@@ -86,7 +86,7 @@ fn block_ports(
     report: &mut [u8],
     counted: Counted,
 ) -> Counted
-    requires { ⌜ (at ≤ longestImage) × (inputs ≤ mostPorts) × (outputs ≤ mostPorts) × (total counted ≤ 850000) ⌝ }
+    requires { ⌜ (at ≤ longestImage) × (inputs ≤ mostPorts) × (outputs ≤ mostPorts) × (at + blockPorts + portLength * (inputs + outputs) ≤ length (now image)) × (total counted ≤ 850000) ⌝ }
     ensures { λ r. ⌜ Put (now (report .entry)) counted (each inputs (portFault n subject 2 (now (image .entry)) (at + blockPorts)) ++ each outputs (portFault n subject 3 (now (image .entry)) (at + blockPorts + portLength * inputs))) (now (report .exit)) r × (total r ≤ total counted + 512) ⌝ }
 {
     let c = port_faults(

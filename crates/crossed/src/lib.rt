@@ -18,7 +18,8 @@ use records::connector;
 use records::connector_attrs;
 ghost use Prim.Native.Nat.{_+_, _<_, _≤_};
 ghost use Rattle.base.specs.Lists.{each};
-ghost use Rattle.oce_model.specs.Format.{longestImage, connectorAttrs, textTag};
+ghost use lib.ListN.{length};
+ghost use Rattle.oce_model.specs.Format.{longestImage, connectorAttrs, attrsLength, textTag};
 ghost use Rattle.oce_model.specs.Attributes.{attrsAt};
 ghost use Rattle.oce_model.specs.Model.{modelOf};
 ghost use Rattle.oce_diag.specs.Putting.{total, Put};
@@ -38,7 +39,7 @@ fn put_crossed(
     report: &mut [u8],
     counted: Counted,
 ) -> Counted
-    requires { ⌜ Laid (now image) layout × (at ≤ longestImage + connectorAttrs) × (total counted ≤ 2000000) ⌝ }
+    requires { ⌜ Laid (now image) layout × (at ≤ longestImage + connectorAttrs) × (at + attrsLength ≤ length (now image)) × (total counted ≤ 2000000) ⌝ }
     ensures { λ r. ⌜ Put (now (report .entry)) counted (crossedFaults (modelOf (now (image .entry))) detail subject i (attrsAt (now (image .entry)) at)) (now (report .exit)) r × (total r ≤ total counted + 1) ⌝ }
 {
     let d = error(DiagCode::CrossedBounds, 5, detail, subject, i);

@@ -15,7 +15,7 @@ ghost use mathlib.Core.Path.{_≡_};
 ghost use Prim.Native.Nat.{_+_, _<_, _≤_};
 ghost use lib.ListN.{length, take};
 ghost use Rattle.base.specs.Lists.{tab, only, below};
-ghost use Rattle.oce_model.specs.Format.{longestImage, connectorAttrs};
+ghost use Rattle.oce_model.specs.Format.{longestImage, connectorAttrs, attrsLength};
 ghost use Rattle.oce_model.specs.Attributes.{attrsAt};
 ghost use Rattle.oce_model.specs.Model.{modelOf};
 ghost use Rattle.accept.specs.Layout.{Laid};
@@ -42,7 +42,7 @@ pub fn member_iri(image: &[u8], layout: Layout, x: usize) -> usize
 // Where its attributes stand.
 fn member_attrs(image: &[u8], layout: Layout, x: usize) -> usize
     requires { ⌜ Laid (now image) layout × isMember layout x ⌝ }
-    ensures { λ r. ⌜ (attrsAt (now (image .entry)) r ≡ memberAttrs (modelOf (now (image .entry))) x) × (r ≤ longestImage + connectorAttrs) ⌝ }
+    ensures { λ r. ⌜ (attrsAt (now (image .entry)) r ≡ memberAttrs (modelOf (now (image .entry))) x) × (r ≤ longestImage + connectorAttrs) × (r + attrsLength ≤ length (now (image .entry))) ⌝ }
 {
     let connectors = layout.connectors;
     let n = connectors.count;

@@ -15,6 +15,13 @@ pub fn wide(x: u8) -> usize
 
 // ---- the number that stands in a slice from index at on
 
+pub fn read8(s: &[u8], at: usize) -> usize
+    requires { ⌜ at < length (now s) ⌝ }
+    ensures { λ r. ⌜ (r ≡ byte (now (s .entry)) at) × (r < 256) ⌝ }
+{
+    wide(s[at])
+}
+
 pub fn read16(s: &[u8], at: usize) -> usize
     requires { ⌜ at + 2 ≤ length (now s) ⌝ }
     ensures { λ r. ⌜ (r ≡ le16 (now (s .entry)) at) × (r < 65536) ⌝ }

@@ -17,7 +17,8 @@ use oce_model::RealAttrs;
 ghost use mathlib.Core.Path.{_≡_};
 ghost use mathlib.Core.Bool.{cond};
 ghost use Prim.Native.Nat.{_+_, _<_, _≤_};
-ghost use Rattle.oce_model.specs.Format.{longestImage, connectorAttrs};
+ghost use lib.ListN.{length};
+ghost use Rattle.oce_model.specs.Format.{longestImage, connectorAttrs, attrsLength};
 ghost use Rattle.oce_model.specs.Attributes.{attrsAt};
 ghost use Rattle.oce_model.specs.Model.{modelOf};
 ghost use Rattle.accept.specs.Layout.{Laid};
@@ -89,7 +90,7 @@ fn integer_range(a: IntAttrs, min: i64, max: i64) -> Range
 // ---- any kind
 
 pub fn range_of(image: &[u8], layout: Layout, at: usize) -> Range
-    requires { ⌜ Laid (now image) layout × (at ≤ longestImage + connectorAttrs) ⌝ }
+    requires { ⌜ Laid (now image) layout × (at ≤ longestImage + connectorAttrs) × (at + attrsLength ≤ length (now image)) ⌝ }
     ensures { λ r. ⌜ r ≡ rangeOf (modelOf (now (image .entry))) (attrsAt (now (image .entry)) at) ⌝ }
 {
     let kind = attrs_kind(image, at);

@@ -9,12 +9,12 @@ use mathlib.Core.Bool.{Bool, false, not, _||_}
 use mathlib.Core.List.{List, _++_}
 use lib.ListN.{length, getD, drop, length-map, length-append, List·getD-append}
 use lib.Dec.{eqb, ltb}
-use borrow.Author.Tests.{ltb-false}
+use borrow.Author.Tests.{eqb-true, ltb-false, not-false}
 use Rattle.base.specs.Buffers.{startsWith}
 use Rattle.base.proofs.Lists.{length-tab, getD-tab, or-parts}
 use Rattle.base.proofs.Members.{getD-map}
 use Rattle.numbers.specs.Bytes.{byte, le16, le32}
-use Rattle.oce_model.specs.Format.{leadingBytes, longestImage, portLength, mostPorts, blockLength, textTag, blockTag, fixedLength, most, mostBlocks, mostConnectors, mostConnections, mostExternalInputs, mostBoundaryInputs, mostBoundaryOutputs, connectorTag, connectionTag, externalInputTag, boundaryInputTag, boundaryOutputTag, connectorSize, connectionSize, externalInputSize, boundaryInputSize, boundaryOutputSize, connectorAttrs, boundaryInputAttrs, boundaryOutputAttrs}
+use Rattle.oce_model.specs.Format.{leadingBytes, longestImage, blockPorts, portLength, mostPorts, blockLength, textTag, blockTag, fixedLength, most, mostBlocks, mostConnectors, mostConnections, mostExternalInputs, mostBoundaryInputs, mostBoundaryOutputs, connectorTag, connectionTag, externalInputTag, boundaryInputTag, boundaryOutputTag, connectorSize, connectionSize, externalInputSize, boundaryInputSize, boundaryOutputSize, connectorAttrs, boundaryInputAttrs, boundaryOutputAttrs, attrsLength}
 use Rattle.oce_model.specs.Attributes.{attrsAt}
 use Rattle.oce_model.specs.Image.{fieldAt, fields, ofTag, startOf}
 use Rattle.oce_model.specs.declared.Field.{Field}
@@ -136,6 +136,9 @@ module _ {s : List ℕ} {l : Layout} (h : Laid s l) where
       unfolding layoutOf sectionOf fixedLength
       connector-inside e = rw (e, h .layout) (inside s acc connectorTag connectorSize i (omega arith) (omega arith) refl (rw (h .layout) at k))
 
+      pub connector-held : {at : ℕ} → at ≡ l .connectors .start + connectorSize * i → at + connectorAttrs + attrsLength ≤ length s
+      connector-held e = let f = connector-inside e in omega arith
+
       connector-is : connectorAt s (l .connectors .start + connectorSize * i) ≡ connector (modelOf s) i
       unfolding layoutOf sectionOf
       connector-is =
@@ -200,6 +203,10 @@ module _ {s : List ℕ} {l : Layout} (h : Laid s l) where
       unfolding layoutOf sectionOf fixedLength
       input-inside e = let f = inside s acc boundaryInputTag boundaryInputSize i (omega arith) (omega arith) refl (rw (h .layout) at k) in rw (e, h .layout) (omega (arith, f))
 
+      pub input-held : {at : ℕ} → at ≡ l .inputs .start + boundaryInputSize * i → at + boundaryInputAttrs + attrsLength ≤ length s
+      unfolding layoutOf sectionOf fixedLength
+      input-held e = let f = inside s acc boundaryInputTag boundaryInputSize i (omega arith) (omega arith) refl (rw (h .layout) at k) in rw (e, h .layout) (omega (arith, f))
+
       input-is : boundaryInputAt s (l .inputs .start + boundaryInputSize * i) ≡ boundaryInput (modelOf s) i
       unfolding layoutOf sectionOf
       input-is =
@@ -227,6 +234,10 @@ module _ {s : List ℕ} {l : Layout} (h : Laid s l) where
       pub output-source : {at : ℕ} → at ≡ l .outputs .start + boundaryOutputSize * i → at + 5 + 4 ≤ length s
       unfolding layoutOf sectionOf fixedLength
       output-source e = let f = inside s acc boundaryOutputTag boundaryOutputSize i (omega arith) (omega arith) refl (rw (h .layout) at k) in rw (e, h .layout) (omega (arith, f))
+
+      pub output-held : {at : ℕ} → at ≡ l .outputs .start + boundaryOutputSize * i → at + boundaryOutputAttrs + attrsLength ≤ length s
+      unfolding layoutOf sectionOf fixedLength
+      output-held e = let f = inside s acc boundaryOutputTag boundaryOutputSize i (omega arith) (omega arith) refl (rw (h .layout) at k) in rw (e, h .layout) (omega (arith, f))
 
       output-is : boundaryOutputAt s (l .outputs .start + boundaryOutputSize * i) ≡ boundaryOutput (modelOf s) i
       unfolding layoutOf sectionOf
@@ -288,6 +299,14 @@ module _ {s : List ℕ} {l : Layout} (h : Laid s l) where
       parts : ((not (eqb (nth blockTag s i .len) (blockLength + portLength * (inputCountAt s (nth blockTag s i .at) + outputCountAt s (nth blockTag s i .at)))) || ltb mostPorts (inputCountAt s (nth blockTag s i .at))) ≡ false) × (ltb mostPorts (outputCountAt s (nth blockTag s i .at)) ≡ false)
       unfolding badBlockLength
       parts = or-parts (not (eqb (nth blockTag s i .len) (blockLength + portLength * (inputCountAt s (nth blockTag s i .at) + outputCountAt s (nth blockTag s i .at)))) || ltb mostPorts (inputCountAt s (nth blockTag s i .at))) (ltb mostPorts (outputCountAt s (nth blockTag s i .at))) field-fine
+
+      -- its ports too end inside the image
+      pub block-inside : {at : ℕ} → at ≡ getD blocks i 0 → at + blockPorts + portLength * (inputCountAt s at + outputCountAt s at) ≤ length s
+      block-inside {at} e =
+          let f = nth blockTag s i in
+          let n = field-end s f (nth-mem blockTag s i many) in
+          let w : f .len ≡ blockLength + portLength * (inputCountAt s (f .at) + outputCountAt s (f .at)) = eqb-true (f .len) _ (not-false _ (or-parts _ _ (parts .0) .0)) in
+          rw (e ∙ stands) (omega arith)
 
       pub input-ports-few : {at : ℕ} → at ≡ getD blocks i 0 → inputCountAt s at ≤ mostPorts
       input-ports-few {at} e =

@@ -2,14 +2,9 @@
 // each record stands.
 use accept::Layout;
 use accept::Section;
-use numbers::at16;
-use numbers::at32;
-use numbers::at64;
-use numbers::int_of_bits;
+use numbers::read8;
 use numbers::read16;
 use numbers::read32;
-use numbers::real_of_bits;
-use numbers::wide;
 use oce_model::BOUNDARY_INPUT_ATTRS;
 use oce_model::BOUNDARY_INPUT_SIZE;
 use oce_model::BOUNDARY_OUTPUT_ATTRS;
@@ -24,14 +19,12 @@ use oce_model::Connection;
 use oce_model::Connector;
 use oce_model::ConnectorId;
 use oce_model::EXTERNAL_INPUT_SIZE;
-use oce_model::IntAttrs;
 use oce_model::PORT_LENGTH;
-use oce_model::RealAttrs;
 ghost use mathlib.Core.Path.{_≡_};
 ghost use Prim.Native.Nat.{_+_, _*_, _<_, _≤_};
 ghost use lib.ListN.{length, getD};
-ghost use Rattle.numbers.specs.Bytes.{byte, le32};
-ghost use Rattle.oce_model.specs.Format.{longestImage, portLength, mostPorts, blockTag, connectorTag, connectionTag, externalInputTag, boundaryInputTag, boundaryOutputTag, connectorSize, connectionSize, externalInputSize, boundaryInputSize, boundaryOutputSize, connectorAttrs};
+ghost use Rattle.numbers.specs.Bytes.{le32};
+ghost use Rattle.oce_model.specs.Format.{longestImage, blockPorts, portLength, mostPorts, blockTag, connectorTag, connectionTag, externalInputTag, boundaryInputTag, boundaryOutputTag, connectorSize, connectionSize, externalInputSize, boundaryInputSize, boundaryOutputSize, connectorAttrs, attrsLength};
 ghost use Rattle.oce_model.specs.Attributes.{attrsAt};
 ghost use Rattle.oce_model.specs.Model.{modelOf, inputCountAt, outputCountAt, blockAt, connectorAt, block, connector, connection, boundaryInput, boundaryOutput};
 ghost use Rattle.accept.specs.Layout.{Laid, Tabled};
@@ -45,14 +38,6 @@ fn record_at(section: Section, size: usize, i: usize) -> usize
     section.start + size * i
 }
 
-// A byte of the image.
-fn byte_in(image: &[u8], at: usize) -> usize
-    requires { ⌜ at < length (now image) ⌝ }
-    ensures { λ r. ⌜ (r ≡ byte (now (image .entry)) at) × (r < 256) ⌝ }
-{
-    wide(image[at])
-}
-
 // ---- connectors
 
 fn connector_at(image: &[u8], at: usize) -> Connector
@@ -62,8 +47,8 @@ fn connector_at(image: &[u8], at: usize) -> Connector
     Connector {
         id: ConnectorId(read32(image, at + 3) as u32),
         block: BlockId(read32(image, at + 7) as u32),
-        dir: byte_in(image, at + 11),
-        kind: byte_in(image, at + 12),
+        dir: read8(image, at + 11),
+        kind: read8(image, at + 12),
         class: read32(image, at + 13),
         iri: read16(image, at + 17),
     }
@@ -80,7 +65,7 @@ pub fn connector(image: &[u8], layout: Layout, i: ConnectorId) -> Connector
 // Where a connector's attributes stand.
 pub fn connector_attrs(image: &[u8], layout: Layout, i: ConnectorId) -> usize
     requires { ⌜ Laid (now image) layout × (i .0 < layout .connectors .count) ⌝ }
-    ensures { λ r. ⌜ (attrsAt (now (image .entry)) r ≡ connector (modelOf (now (image .entry))) (i .0) .attrs) × (r ≤ longestImage + connectorAttrs) ⌝ }
+    ensures { λ r. ⌜ (attrsAt (now (image .entry)) r ≡ connector (modelOf (now (image .entry))) (i .0) .attrs) × (r ≤ longestImage + connectorAttrs) × (r + attrsLength ≤ length (now (image .entry))) ⌝ }
 {
     let c = layout.connectors;
     record_at(c, CONNECTOR_SIZE, i.0 as usize) + CONNECTOR_ATTRS
@@ -123,7 +108,7 @@ pub fn boundary_input_iri(image: &[u8], layout: Layout, i: usize) -> usize
 // Where its attributes stand.
 pub fn boundary_input_attrs(image: &[u8], layout: Layout, i: usize) -> usize
     requires { ⌜ Laid (now image) layout × (i < layout .inputs .count) ⌝ }
-    ensures { λ r. ⌜ (attrsAt (now (image .entry)) r ≡ boundaryInput (modelOf (now (image .entry))) i .attrs) × (r ≤ longestImage + connectorAttrs) ⌝ }
+    ensures { λ r. ⌜ (attrsAt (now (image .entry)) r ≡ boundaryInput (modelOf (now (image .entry))) i .attrs) × (r ≤ longestImage + connectorAttrs) × (r + attrsLength ≤ length (now (image .entry))) ⌝ }
 {
     let c = layout.inputs;
     record_at(c, BOUNDARY_INPUT_SIZE, i) + BOUNDARY_INPUT_ATTRS
@@ -144,7 +129,7 @@ pub fn boundary_output(image: &[u8], layout: Layout, i: usize) -> BoundaryOutput
 // Where its attributes stand.
 pub fn boundary_output_attrs(image: &[u8], layout: Layout, i: usize) -> usize
     requires { ⌜ Laid (now image) layout × (i < layout .outputs .count) ⌝ }
-    ensures { λ r. ⌜ (attrsAt (now (image .entry)) r ≡ boundaryOutput (modelOf (now (image .entry))) i .attrs) × (r ≤ longestImage + connectorAttrs) ⌝ }
+    ensures { λ r. ⌜ (attrsAt (now (image .entry)) r ≡ boundaryOutput (modelOf (now (image .entry))) i .attrs) × (r ≤ longestImage + connectorAttrs) × (r + attrsLength ≤ length (now (image .entry))) ⌝ }
 {
     let c = layout.outputs;
     record_at(c, BOUNDARY_OUTPUT_SIZE, i) + BOUNDARY_OUTPUT_ATTRS
@@ -155,7 +140,7 @@ pub fn boundary_output_attrs(image: &[u8], layout: Layout, i: usize) -> usize
 // Where block i stands; blocks is the table that `accept` filled.
 pub fn block_offset(image: &[u8], layout: Layout, blocks: &[usize], i: BlockId) -> usize
     requires { ⌜ Laid (now image) layout × Tabled blockTag (now image) (now blocks) × (i .0 < layout .blocks .count) ⌝ }
-    ensures { λ r. ⌜ (block (modelOf (now (image .entry))) (i .0) ≡ blockAt (now (image .entry)) r) × (r ≤ longestImage) × (inputCountAt (now (image .entry)) r ≤ mostPorts) × (outputCountAt (now (image .entry)) r ≤ mostPorts) ⌝ }
+    ensures { λ r. ⌜ (block (modelOf (now (image .entry))) (i .0) ≡ blockAt (now (image .entry)) r) × (r ≤ longestImage) × (inputCountAt (now (image .entry)) r ≤ mostPorts) × (outputCountAt (now (image .entry)) r ≤ mostPorts) × (r + blockPorts + portLength * (inputCountAt (now (image .entry)) r + outputCountAt (now (image .entry)) r) ≤ length (now (image .entry))) ⌝ }
 {
     let k = i.0 as usize;
     blocks[k]
@@ -163,20 +148,22 @@ pub fn block_offset(image: &[u8], layout: Layout, blocks: &[usize], i: BlockId) 
 
 pub fn block(image: &[u8], at: usize) -> Block
     requires { ⌜ at ≤ longestImage ⌝ }
+    requires { ⌜ at + blockPorts ≤ length (now image) ⌝ }
     ensures { λ r. ⌜ (r ≡ blockRead (blockAt (now (image .entry)) at)) × (r .instance < 65536) × (r .inputs ≡ inputCountAt (now (image .entry)) at) × (r .outputs ≡ outputCountAt (now (image .entry)) at) ⌝ }
 {
     Block {
-        id: BlockId(at32(image, at + 3) as u32),
-        instance: at16(image, at + 7),
-        inputs: at16(image, at + 9),
-        outputs: at16(image, at + 11),
+        id: BlockId(read32(image, at + 3) as u32),
+        instance: read16(image, at + 7),
+        inputs: read16(image, at + 9),
+        outputs: read16(image, at + 11),
     }
 }
 
 // The id of port j of those whose ids begin at an offset.
 pub fn port(image: &[u8], ids: usize, j: usize) -> usize
     requires { ⌜ (ids ≤ longestImage + longestImage) × (j ≤ longestImage) ⌝ }
+    requires { ⌜ ids + portLength * j + portLength ≤ length (now image) ⌝ }
     ensures { λ r. ⌜ (r ≡ le32 (now (image .entry)) (ids + portLength * j)) × (r < 4294967296) ⌝ }
 {
-    at32(image, ids + PORT_LENGTH * j)
+    read32(image, ids + PORT_LENGTH * j)
 }

@@ -1,8 +1,7 @@
 // The slots of an accepted image, read into columns.
 use accept::Layout;
-use numbers::at16;
-use numbers::at64;
-use numbers::byte_at;
+use numbers::read16;
+use numbers::read64;
 use oce_model::ConnectorId;
 use records::boundary_output_attrs;
 use records::connector_attrs;
@@ -11,7 +10,7 @@ ghost use mathlib.Core.Path.{_≡_};
 ghost use Prim.Native.Nat.{_+_, _*_, _≤_, _<_};
 ghost use lib.ListN.{length};
 ghost use Rattle.base.specs.Buffers.{patch};
-ghost use Rattle.oce_model.specs.Format.{longestImage, connectorAttrs};
+ghost use Rattle.oce_model.specs.Format.{longestImage, connectorAttrs, attrsLength};
 ghost use Rattle.oce_model.specs.Attributes.{attrsAt};
 ghost use Rattle.oce_model.specs.Model.{modelOf};
 ghost use Rattle.accept.specs.Layout.{Laid};
@@ -33,27 +32,27 @@ fn copy_numbers(dst: &mut [u64], at: usize, src: &[u64])
 
 // Slot j's numbers, from the attributes at an offset of the image.
 fn load_numbers(image: &[u8], at: usize, j: usize, ns: &mut [u64])
-    requires { ⌜ (at ≤ longestImage + connectorAttrs) × (width * (j + 1) ≤ length (now ns)) ⌝ }
+    requires { ⌜ (at ≤ longestImage + connectorAttrs) × (at + attrsLength ≤ length (now image)) × (width * (j + 1) ≤ length (now ns)) ⌝ }
     ensures { λ _. ⌜ now (ns .exit) ≡ patch (now (ns .entry)) (width * j) (attrsAt (now (image .entry)) at .nums) ⌝ }
 {
     let row: [u64; 6] = [
-        at16(image, at + 2) as u64,
-        at16(image, at + 4) as u64,
-        at16(image, at + 6) as u64,
-        at64(image, at + 8),
-        at64(image, at + 16),
-        at64(image, at + 24),
+        read16(image, at + 2) as u64,
+        read16(image, at + 4) as u64,
+        read16(image, at + 6) as u64,
+        read64(image, at + 8),
+        read64(image, at + 16),
+        read64(image, at + 24),
     ];
     copy_numbers(ns, WIDTH * j, &row);
 }
 
 // Slot j, from the attributes at an offset of the image.
 fn load_slot(image: &[u8], at: usize, j: usize, ks: &mut [u8], ms: &mut [u8], ns: &mut [u64])
-    requires { ⌜ (at ≤ longestImage + connectorAttrs) × Room (j + 1) (now ks) (now ms) (now ns) ⌝ }
+    requires { ⌜ (at ≤ longestImage + connectorAttrs) × (at + attrsLength ≤ length (now image)) × Room (j + 1) (now ks) (now ms) (now ns) ⌝ }
     ensures { λ _. ⌜ Loaded j (attrsAt (now (image .entry)) at) (now (ks .entry)) (now (ms .entry)) (now (ns .entry)) (now (ks .exit)) (now (ms .exit)) (now (ns .exit)) ⌝ }
 {
-    ks[j] = byte_at(image, at) as u8;
-    ms[j] = byte_at(image, at + 1) as u8;
+    ks[j] = image[at];
+    ms[j] = image[at + 1];
     load_numbers(image, at, j, ns);
 }
 

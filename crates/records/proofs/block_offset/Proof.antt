@@ -1,7 +1,7 @@
 -- `records::block_offset` meets its contract.
 -- Assumes nothing.
 use borrow.Author.Needs.{needs}
-use Rattle.records.proofs.Laws.{block-listed, block-is, block-near, input-ports-few, output-ports-few}
+use Rattle.records.proofs.Laws.{block-listed, block-is, block-near, block-inside, input-ports-few, output-ports-few}
 use Rattle.records.proofs.block_offset.Statement.{statement}
 use Rattle.records.proofs.block_offset.Tie as tie
 
@@ -12,4 +12,4 @@ block-offset-spec =
     (λ c. search needs)
     (λ c. search needs)
     (λ c. search (block-listed, needs))
-    (λ c. search (block-is, block-near, input-ports-few, output-ports-few, needs)))
+    (λ c. search (block-is, block-near, block-inside, input-ports-few, output-ports-few, needs)))

@@ -1,7 +1,7 @@
 -- `records::boundary_input_attrs` meets its contract.
 -- Assumes nothing.
 use borrow.Author.Needs.{needs}
-use Rattle.records.proofs.Laws.{input-near, input-has}
+use Rattle.records.proofs.Laws.{input-near, input-has, input-held}
 use Rattle.records.proofs.boundary_input_attrs.Statement.{statement}
 use Rattle.records.proofs.boundary_input_attrs.Tie as tie
 
@@ -11,4 +11,4 @@ boundary-input-attrs-spec =
     (tie.spec
     (λ c κs. search (input-near, needs))
     (λ c. search needs)
-    (λ c. search (input-has, needs)))
+    (λ c. search (input-has, input-held, needs)))

@@ -1,7 +1,7 @@
 -- `records::boundary_output_attrs` meets its contract.
 -- Assumes nothing.
 use borrow.Author.Needs.{needs}
-use Rattle.records.proofs.Laws.{output-near, output-has}
+use Rattle.records.proofs.Laws.{output-near, output-has, output-held}
 use Rattle.records.proofs.boundary_output_attrs.Statement.{statement}
 use Rattle.records.proofs.boundary_output_attrs.Tie as tie
 
@@ -11,4 +11,4 @@ boundary-output-attrs-spec =
     (tie.spec
     (λ c κs. search (output-near, needs))
     (λ c. search needs)
-    (λ c. search (output-has, needs)))
+    (λ c. search (output-has, output-held, needs)))

@@ -1,7 +1,7 @@
 -- `records::connector_attrs` meets its contract.
 -- Assumes nothing.
 use borrow.Author.Needs.{needs}
-use Rattle.records.proofs.Laws.{connector-near, connector-has}
+use Rattle.records.proofs.Laws.{connector-near, connector-has, connector-held}
 use Rattle.records.proofs.connector_attrs.Statement.{statement}
 use Rattle.records.proofs.connector_attrs.Tie as tie
 
@@ -12,4 +12,4 @@ connector-attrs-spec =
     (λ c. search needs)
     (λ c κs. search (connector-near, needs))
     (λ c. search needs)
-    (λ c. search (connector-has, needs)))
+    (λ c. search (connector-has, connector-held, needs)))
