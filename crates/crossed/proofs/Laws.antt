@@ -29,10 +29,14 @@ use Rattle.crossed.specs.Details.{connectorCrossed, inputCrossed, output
 
 -- ---- one record
 
-pub crossed-put : (m : Model) (detail : ℕ) (subject : Subject) (i : ℕ) (a : Attrs) {r : Range} {t : Bool} {d : Diagnostic} {b b′ : List ℕ} {c c′ : Counted} → Put b c (only t d) b′ c′
-    → d ≡ error CrossedBounds 5 detail subject i → t ≡ crossed r → r ≡ rangeOf m a → Put b c (crossedFaults m detail subject i a) b′ c′
+pub error-put : (t : Bool) (detail : ℕ) (subject : Subject) (i : ℕ) {d : Diagnostic} {b b′ : List ℕ} {c c′ : Counted} → Put b c (only t d) b′ c′ → d ≡ error CrossedBounds 5 detail subject i
+    → Put b c (only t (error CrossedBounds 5 detail subject i)) b′ c′
+error-put t detail subject i p e = rw (← e) p
+
+pub crossed-put : (m : Model) (detail : ℕ) (subject : Subject) (i : ℕ) (a : Attrs) {r : Range} {t : Bool} {b b′ : List ℕ} {c c′ : Counted} → Put b c (only t (error CrossedBounds 5 detail subject i)) b′ c′
+    → t ≡ crossed r → r ≡ rangeOf m a → Put b c (crossedFaults m detail subject i a) b′ c′
 unfolding crossedFaults
-crossed-put m detail subject i a p e f g = rw (← g, ← f, ← e) p
+crossed-put m detail subject i a p f g = rw (← g, ← f) p
 
 module _ (m : Model) (i : ℕ) {a : Attrs} {b b′ : List ℕ} {c c′ : Counted} where
   pub connector-put : {u : Subject} {k : Connector} → Put b c (crossedFaults m 1 u i a) b′ c′ → u ≡ connectorSubject (k .iri) (k .id .0) → k ≡ connectorRead (connector m i) → a ≡ connector m i .attrs

@@ -17,33 +17,31 @@ use records::boundary_output_attrs;
 use records::connector;
 use records::connector_attrs;
 ghost use Prim.Native.Nat.{_+_, _<_, _≤_};
-ghost use Rattle.base.specs.Lists.{each};
-ghost use lib.ListN.{length};
-ghost use Rattle.oce_model.specs.Format.{longestImage, connectorAttrs, attrsLength, textTag};
-ghost use Rattle.oce_model.specs.Attributes.{attrsAt};
+ghost use Rattle.base.specs.Lists.{each, only};
+ghost use Rattle.oce_model.specs.Format.{textTag};
 ghost use Rattle.oce_model.specs.Model.{modelOf};
+ghost use Rattle.oce_diag.specs.Diagnostics.{error};
+ghost use Rattle.oce_diag.specs.declared.DiagCode.the-variants.{CrossedBounds};
 ghost use Rattle.oce_diag.specs.Putting.{total, Put};
 ghost use Rattle.accept.specs.Layout.{Laid, Tabled};
 ghost use Rattle.externals.specs.Columns.{Listed};
-ghost use Rattle.crossed_bounds.specs.CrossedBounds.{crossedFaults, rule5};
+ghost use Rattle.crossed_bounds.specs.CrossedBounds.{rule5};
 ghost use Rattle.crossed.specs.Details.{connectorCrossed, inputCrossed, outputCrossed, mostCrossed};
 
-// Reports the attributes at an offset, where their range is crossed: the Rust's `report`.
+// Reports a range that is crossed: the Rust's `report`.
 fn put_crossed(
-    image: &[u8],
-    layout: Layout,
-    at: usize,
+    report: &mut [u8],
+    counted: Counted,
+    bad: bool,
     detail: u8,
     subject: Subject,
     i: u32,
-    report: &mut [u8],
-    counted: Counted,
 ) -> Counted
-    requires { ⌜ Laid (now image) layout × (at ≤ longestImage + connectorAttrs) × (at + attrsLength ≤ length (now image)) × (total counted ≤ 2000000) ⌝ }
-    ensures { λ r. ⌜ Put (now (report .entry)) counted (crossedFaults (modelOf (now (image .entry))) detail subject i (attrsAt (now (image .entry)) at)) (now (report .exit)) r × (total r ≤ total counted + 1) ⌝ }
+    requires { ⌜ total counted ≤ 2000000 ⌝ }
+    ensures { λ r. ⌜ Put (now (report .entry)) counted (only bad (error CrossedBounds 5 detail subject i)) (now (report .exit)) r × (total r ≤ total counted + 1) ⌝ }
 {
     let d = error(DiagCode::CrossedBounds, 5, detail, subject, i);
-    put_if(report, counted, is_crossed(range_of(image, layout, at)), d)
+    put_if(report, counted, bad, d)
 }
 
 // ---- detail 1
@@ -62,7 +60,8 @@ pub fn connector_crossed(
     let id = c.id;
     let subject = subject_of(c.iri, id.0);
     let at = connector_attrs(image, layout, i);
-    put_crossed(image, layout, at, 1, subject, i.0, report, counted)
+    let bad = is_crossed(range_of(image, layout, at));
+    put_crossed(report, counted, bad, 1, subject, i.0)
 }
 
 fn connectors_crossed(image: &[u8], layout: Layout, report: &mut [u8], counted: Counted) -> Counted
@@ -95,7 +94,8 @@ pub fn input_crossed(
     let iri = boundary_input_iri(image, layout, i);
     let subject = Subject::Text(iri as u32);
     let at = boundary_input_attrs(image, layout, i);
-    put_crossed(image, layout, at, 2, subject, i as u32, report, counted)
+    let bad = is_crossed(range_of(image, layout, at));
+    put_crossed(report, counted, bad, 2, subject, i as u32)
 }
 
 fn inputs_crossed(image: &[u8], layout: Layout, report: &mut [u8], counted: Counted) -> Counted
@@ -128,7 +128,8 @@ pub fn output_crossed(
     let o = boundary_output(image, layout, i);
     let subject = Subject::Text(o.iri as u32);
     let at = boundary_output_attrs(image, layout, i);
-    put_crossed(image, layout, at, 3, subject, i as u32, report, counted)
+    let bad = is_crossed(range_of(image, layout, at));
+    put_crossed(report, counted, bad, 3, subject, i as u32)
 }
 
 fn outputs_crossed(image: &[u8], layout: Layout, report: &mut [u8], counted: Counted) -> Counted

@@ -1,7 +1,7 @@
 -- `crossed::connector_crossed` meets its contract.
 -- Assumes nothing.
 use borrow.Author.Needs.{needs}
-use Rattle.crossed.proofs.Laws.{connector-put}
+use Rattle.crossed.proofs.Laws.{crossed-put, connector-put}
 use Rattle.crossed.proofs.connector_crossed.Statement.{statement}
 use Rattle.crossed.proofs.connector_crossed.Tie as tie
 
@@ -13,5 +13,7 @@ connector-crossed-spec =
     (λ c κs. search needs)
     (λ c κs. search needs)
     (λ c κs. search needs)
+    (λ c κs. search needs)
+    (λ c κs. search needs)
     (λ c. search needs)
-    (λ c. search (connector-put, needs)))
+    (λ c. search (connector-put, crossed-put, needs)))

@@ -1,7 +1,7 @@
 -- `crossed::input_crossed` meets its contract.
 -- Assumes nothing.
 use borrow.Author.Needs.{needs}
-use Rattle.crossed.proofs.Laws.{input-put, number-small, inputs-room}
+use Rattle.crossed.proofs.Laws.{crossed-put, input-put, number-small, inputs-room}
 use Rattle.crossed.proofs.input_crossed.Statement.{statement}
 use Rattle.crossed.proofs.input_crossed.Tie as tie
 
@@ -12,7 +12,9 @@ input-crossed-spec =
     (λ c κs. search needs)
     (λ c. search needs)
     (λ c κs. search needs)
+    (λ c κs. search needs)
+    (λ c κs. search needs)
     (λ c. search (number-small, inputs-room, needs))
     (λ c κs. search needs)
     (λ c. search needs)
-    (λ c. search (input-put, needs)))
+    (λ c. search (input-put, crossed-put, needs)))

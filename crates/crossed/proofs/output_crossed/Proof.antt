@@ -1,7 +1,7 @@
 -- `crossed::output_crossed` meets its contract.
 -- Assumes nothing.
 use borrow.Author.Needs.{needs}
-use Rattle.crossed.proofs.Laws.{output-put, number-small, outputs-room}
+use Rattle.crossed.proofs.Laws.{crossed-put, output-put, number-small, outputs-room}
 use Rattle.crossed.proofs.output_crossed.Statement.{statement}
 use Rattle.crossed.proofs.output_crossed.Tie as tie
 
@@ -12,7 +12,9 @@ output-crossed-spec =
     (λ c κs. search needs)
     (λ c. search needs)
     (λ c κs. search needs)
+    (λ c κs. search needs)
+    (λ c κs. search needs)
     (λ c. search (number-small, outputs-room, needs))
     (λ c κs. search needs)
     (λ c. search needs)
-    (λ c. search (output-put, needs)))
+    (λ c. search (output-put, crossed-put, needs)))

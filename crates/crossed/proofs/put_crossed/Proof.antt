@@ -1,7 +1,7 @@
 -- `crossed::put_crossed` meets its contract.
 -- Assumes nothing.
 use borrow.Author.Needs.{needs}
-use Rattle.crossed.proofs.Laws.{crossed-put}
+use Rattle.crossed.proofs.Laws.{error-put}
 use Rattle.crossed.proofs.put_crossed.Statement.{statement}
 use Rattle.crossed.proofs.put_crossed.Tie as tie
 
@@ -11,7 +11,5 @@ put-crossed-spec =
     (tie.spec
     (λ c κs. search needs)
     (λ c κs. search needs)
-    (λ c κs. search needs)
-    (λ c κs. search needs)
     (λ c. search needs)
-    (λ c. search (crossed-put, needs)))
+    (λ c. search (error-put, needs)))
