@@ -13,6 +13,7 @@ pub fn images() -> Vec<(&'static str, Vec<u8>)> {
         ("long equal iris, all external", iris(false)),
         ("the same, one range apart", iris(true)),
         ("boundary inputs in one group", group()),
+        ("iris that end alike, all external", endings()),
         ("one cluster, long equal texts", cluster(false)),
         ("the same, one display unit apart", cluster(true)),
         ("a chain through inputs", chain()),
@@ -72,6 +73,17 @@ fn iris(apart: bool) -> Draft {
         let attrs = real(0, min, min + 10.0);
         let iri = (id as usize % texts) as u16;
         draft.connectors.push(connector(id, DIR_IN, iri, attrs));
+        draft.external_inputs.push(id);
+    }
+    draft
+}
+
+/// Iris that are told apart before their last eight bytes only.
+fn endings() -> Draft {
+    let mut draft = with_block();
+    for id in 0..800 {
+        let iri = draft.new_text(format!("{id:08}.setpoint").as_bytes());
+        draft.connectors.push(connector(id, DIR_IN, iri, real(0, 0.0, 10.0)));
         draft.external_inputs.push(id);
     }
     draft
