@@ -7,20 +7,20 @@ use mathlib.Core.Path.{_≡_, refl, sym, ap, _∙_}
 use mathlib.Core.Logic.{_≢_}
 use mathlib.Core.Bool.{Bool, true, false, cond}
 use mathlib.Core.List.{List, [], _∷_}
-use mathlib.Core.Option.{Option, none, some, Option·none-ne-some, Option·some-ne-none}
+use mathlib.Core.Option.{Option, none, some, Option·none-ne-some}
 use lib.ListN.{length, getD, set}
 use lib.Seq.{getD-set-same, getD-set-other, set-out}
 use lib.Dec.{eqb}
 use Rattle.base.specs.Lists.{all, steps}
 use Rattle.numbers.specs.Bytes.{bit}
-use Rattle.oce_model.specs.Attributes.{Attrs, declareAt, declaredAt, marked, noAttrs, num}
+use Rattle.oce_model.specs.Attributes.{Attrs, declareAt, declaredAt, noAttrs}
 use Rattle.oce_model.specs.Model.{Model}
 use Rattle.unify.specs.Clusters.{driven, isRoot}
 use Rattle.unify.specs.Slots.{Slots, agree, bitOf, kindOf, put, putAt, slot, slotsOf}
 use Rattle.unify.specs.Unify.{declared, fill, fillRoot, filledTo, fills, putAll, settle}
 use Rattle.unify.proofs.Declared.{unmarked, declareAt-kind, declareAt-other}
 use Rattle.moved.specs.Moved.{Kept}
-use Rattle.numbers.proofs.Bits.{bit-other, bit-same}
+use Rattle.numbers.proofs.Bits.{bit-other}
 
 pub Kept·refl : (a : Attrs) → Kept a a
 Kept·refl a = record { kind = refl; unbounded = (refl, refl); vals = λ p v h. h }

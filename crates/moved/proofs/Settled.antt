@@ -5,17 +5,14 @@ use native.Mathlib.Decide.{ℕ-discrete}
 use native.Mathlib.Omega.{arith}
 use mathlib.Core.Path.{_≡_, refl, sym, ap, _∙_}
 use mathlib.Core.Logic.{_≢_}
-use mathlib.Core.Bool.{Bool, true, false, cond}
+use mathlib.Core.Bool.{true, false}
 use mathlib.Core.List.{List, [], _∷_, List·Memᴰ}
-use mathlib.Core.Option.{Option, none, some, Option·map}
+use mathlib.Core.Option.{Option·map}
 use lib.ListN.{length, getD}
-use lib.Dec.{eqb}
-use borrow.Author.Tests.{eqb-true}
 use Rattle.base.specs.Lists.{steps}
-use Rattle.oce_model.specs.Attributes.{Attrs, declaredAt}
 use Rattle.oce_model.specs.Model.{Model, boundaryOutputCount, connectorCount}
 use Rattle.unify.specs.Clusters.{driven, isRoot}
-use Rattle.unify.specs.Slots.{Slots, bitOf, key, kindOf, put, putAt, slot, slotsOf, value}
+use Rattle.unify.specs.Slots.{Slots, bitOf, key, kindOf, slot, slotsOf, value}
 use Rattle.unify.specs.Unify.{conflict, declared, fill, fillRoot, filledTo, fills}
 use Rattle.moved.proofs.Clusters.{apart}
 use Rattle.unify.proofs.Fixed.{fill-fixed, fills-fixed, filledTo-fixed, put-kind, put-room}

@@ -10,7 +10,7 @@ use Rattle.base.proofs.Lists.{each-none}
 use Rattle.oce_model.specs.Attributes.{Attrs}
 use Rattle.oce_model.specs.Model.{Model}
 use Rattle.unify.specs.Slots.{Slots, slot, unifiedDetails, displayDetail, kindOf, bitOf, value}
-use Rattle.unify.specs.Unify.{cons?, declared, settle, fill, conflict, fillFaults, displayFaults, fills, detailFaults, clusterFaults}
+use Rattle.unify.specs.Unify.{declared, settle, fill, conflict, fillFaults, displayFaults, fills, detailFaults, clusterFaults}
 use Rattle.unify.proofs.Fixed.{fill-fixed}
 use Rattle.unify.proofs.Declared.{value-put}
 

@@ -13,7 +13,6 @@ use lib.Dec.{eqb}
 use lib.ListN.{length, getD}
 use borrow.Author.Tests.{eqb-true, eqb-false, eq-eqb, ne-eqb}
 use Rattle.numbers.specs.Bytes.{bit}
-use Rattle.oce_model.specs.Attributes.{marked}
 use Rattle.oce_model.specs.Format.{realKind, integerKind}
 use Rattle.unify.specs.Slots.{Slots, slot, kindOf, bitOf, value}
 use Rattle.unify.specs.Unify.{declared}
@@ -73,8 +72,8 @@ module _ {ks ms js : List ℕ} where
   pub sees-all : {real integer n : ℕ} → Sees ks ms js real integer n → length js ≤ n → Sees ks ms js real integer (length js)
   sees-all {n = n} v h = let e : length js ≡ n = omega (arith, v .within) in rw e v
 
-pub member-inside : (s : ℕ) (js : List ℕ) (i : ℕ) {j n : ℕ} → Inside s js → i < length js → j ≡ getD js i 0 → s ≤ n → j < n
-member-inside s js i v h e l = omega (arith, v .each i h)
+pub member-inside : (s : ℕ) (js : List ℕ) (i n : ℕ) → Inside s js → i < length js → s ≤ n → getD js i 0 < n
+member-inside s js i n v h l = omega (arith, v .each i h)
 
 -- ---- a detail
 
