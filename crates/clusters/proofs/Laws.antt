@@ -3,8 +3,9 @@
 use Prim.Native.Nat.{ℕ, _+_, _≤_, _<_}
 use native.Mathlib.Omega.{arith}
 use mathlib.Core.Path.{_≡_, refl, sym, ap, _∙_}
-use mathlib.Core.Bool.{Bool, true, false}
+use mathlib.Core.Bool.{Bool, true, false, _&&_}
 use mathlib.Core.List.{List, [], _∷_}
+use lib.Dec.{eqb}
 use lib.ListN.{length}
 use borrow.Author.Tests.{lt-ltb, le-ltb}
 use Rattle.base.specs.Lists.{steps}
@@ -27,8 +28,11 @@ use Rattle.unify.specs.Slots.{unifiedDetails, displayDetail, bitOf}
 use Rattle.unify.specs.Unify.{declared, fill, conflict, conflictCode, fillFaults, displayFaults, fills, detailFaults, clusterFaults}
 use Rattle.slots.specs.Columns.{view}
 use Rattle.records.proofs.Laws.{connectors-few}
+use Rattle.unify.proofs.Undeclared.{fill-undeclared, faults-undeclared, display-undeclared, fills-keep, fills-undeclared, cluster-undeclared}
+use Rattle.unify_seen.specs.Seen.{Sees, shows}
+use Rattle.unify_seen.proofs.Laws.{undeclared, nothing-shows}
 use Rattle.settle.specs.Settle.{Ready, Settled}
-use Rattle.clusters.specs.Clusters.{Detailed, Details, Displayed, Clustered}
+use Rattle.clusters.specs.Clusters.{Unseen, Detailed, Details, Displayed, Clustered}
 
 -- ---- diagnostics
 
@@ -69,6 +73,16 @@ module _ {m : Model} {r d s : ℕ} {ks js ms ns ms′ ns′ : List ℕ} {b : Lis
   unfolding fillFaults
   detail-none e = record { slots = v .slots; put = rw (← v .told, e) put-none; few = omega arith }
 
+pub detail-skip : {m : Model} {r d s : ℕ} {ks js ms ns : List ℕ} {b : List ℕ} {c : Counted} {real integer : ℕ} {t : Bool} → Unseen d s ks ms ns js real integer → t ≡ shows d real integer → t ≡ false
+    → Detailed m r d s ks js ms ns ms ns b c b c
+detail-skip {m} {r} {d} {s} {ks} {js} {ms} {ns} u et e =
+    let none : declared d (view s ks ms ns) js ≡ [] = u .none (sym et ∙ e) in
+    record {
+      slots = sym (fill-undeclared m js d (view s ks ms ns) none);
+      put = rw (faults-undeclared m js d (view s ks ms ns) none r) put-none;
+      few = omega arith;
+    }
+
 -- ---- six details
 
 module _ {m : Model} {r s : ℕ} {ks js ms ns : List ℕ} {b : List ℕ} {c : Counted} where
@@ -91,6 +105,10 @@ module _ {m : Model} {r s : ℕ} {ks js ms ns : List ℕ} {b : List ℕ} {c : Co
     pub details-ready : {image : List ℕ} {layout : Layout} {texts : List ℕ} → Ready image layout texts s ks ms ns js → Ready image layout texts s ks ms′ ns′ js
     details-ready y = record { laid = y .laid; tabled = y .tabled; room = v .room; inside = y .inside; few = y .few }
 
+    pub details-unseen : (d : ℕ) {image : List ℕ} {layout : Layout} {texts : List ℕ} {real integer : ℕ} → Ready image layout texts s ks ms ns js → Sees ks ms js real integer (length js)
+        → Unseen d s ks ms′ ns′ js real integer
+    details-unseen d y w = record { none = λ e. rw (v .slots) (fills-keep m js d i (view s ks ms ns) (undeclared w d s ns (y .inside) e)) }
+
     pub details-done : unifiedDetails ≤ i → Details m r s ks js ms ns ms′ ns′ b c b′ c′ unifiedDetails
     details-done h = let e : unifiedDetails ≡ i = omega (arith, v .emits .within) in rw e v
 
@@ -110,6 +128,20 @@ module _ {m : Model} {r s : ℕ} {ks js ms ns : List ℕ} {b : List ℕ} {c : Co
       → t ≡ conflict m displayDetail (declared displayDetail (view s ks ms ns) js) → t ≡ true → Displayed m r s ks js ms ns b c b′ c′
   unfolding displayFaults
   display-differ p l et e = record { put = rw (← et, e) p; few = l }
+
+  pub display-skip : {real integer : ℕ} {t : Bool} → Unseen displayDetail s ks ms ns js real integer → t ≡ shows displayDetail real integer → t ≡ false → Displayed m r s ks js ms ns b c b c
+  display-skip u et e = record { put = rw (display-undeclared m js (view s ks ms ns) (u .none (sym et ∙ e)) r) put-none; few = omega arith }
+
+  pub cluster-skip : {image : List ℕ} {layout : Layout} {texts : List ℕ} {real integer : ℕ} {t : Bool} → Ready image layout texts s ks ms ns js → Sees ks ms js real integer (length js)
+      → t ≡ (eqb real 0 && eqb integer 0) → t ≡ true → Clustered m r s ks js ms ns ms ns b c b c
+  cluster-skip {real = real} {integer = integer} y w et e =
+      let σ = view s ks ms ns in
+      let none : (d : ℕ) → declared d σ js ≡ [] = λ d. undeclared w d s ns (y .inside) (nothing-shows real integer et e d) in
+      record {
+        slots = sym (fills-undeclared m js σ none unifiedDetails);
+        put = rw (cluster-undeclared m js σ none r) put-none;
+        few = omega arith;
+      }
 
   pub cluster-all : {ms′ ns′ b′ b″ : List ℕ} {c′ c″ : Counted} → Details m r s ks js ms ns ms′ ns′ b c b′ c′ unifiedDetails → Displayed m r s ks js ms′ ns′ b′ c′ b″ c″
       → Clustered m r s ks js ms ns ms′ ns′ b c b″ c″

@@ -2,14 +2,20 @@
 -- Assumes nothing.
 use Prim.Native.Nat.{ℕ, _+_, _≤_}
 use mathlib.Core.Path.{_≡_}
-use mathlib.Core.List.{List}
+use mathlib.Core.Bool.{false}
+use mathlib.Core.List.{List, []}
 use lib.ListN.{length}
 use Rattle.oce_model.specs.Model.{Model}
 use Rattle.oce_diag.specs.declared.Counted.{Counted}
 use Rattle.oce_diag.specs.Putting.{total, Put, Emits}
 use Rattle.unify.specs.Slots.{unifiedDetails}
-use Rattle.unify.specs.Unify.{fill, fillFaults, displayFaults, fills, detailFaults, clusterFaults}
+use Rattle.unify.specs.Unify.{declared, fill, fillFaults, displayFaults, fills, detailFaults, clusterFaults}
 use Rattle.slots.specs.Columns.{view, Room}
+use Rattle.unify_seen.specs.Seen.{shows}
+
+-- detail d is declared by no member where it doesn't show in what was seen of them
+pub record Unseen (d s : ℕ) (ks ms ns js : List ℕ) (real integer : ℕ) : Type 0 where
+  pub none : shows d real integer ≡ false → declared d (view s ks ms ns) js ≡ []
 
 -- by one detail
 pub record Detailed (m : Model) (r d s : ℕ) (ks js ms ns ms′ ns′ b : List ℕ) (c : Counted) (b′ : List ℕ) (c′ : Counted) : Type 0 where

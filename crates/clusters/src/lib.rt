@@ -13,9 +13,14 @@ use records::connector;
 use settle::diverges;
 use settle::settle;
 use slots::bit_of;
+use unify_seen::Seen;
+use unify_seen::is_seen;
+use unify_seen::seen_in;
+use unify_seen::sees_nothing;
 ghost use mathlib.Core.Path.{_≡_};
 ghost use mathlib.Core.List.{[], _∷_};
 ghost use Prim.Native.Nat.{_+_, _≤_, _<_};
+ghost use lib.ListN.{length};
 ghost use Rattle.oce_model.specs.Model.{modelOf, connector};
 ghost use Rattle.accept.specs.Layout.{Laid};
 ghost use Rattle.oce_diag.specs.Diagnostics.{subjectOf, error, warning};
@@ -23,8 +28,9 @@ ghost use Rattle.oce_diag.specs.declared.DiagCode.the-variants.{DisplayUnitDive
 ghost use Rattle.oce_diag.specs.Putting.{total, Put};
 ghost use Rattle.unify.specs.Slots.{unifiedDetails, displayDetail};
 ghost use Rattle.unify.specs.Unify.{conflictCode};
+ghost use Rattle.unify_seen.specs.Seen.{Sees};
 ghost use Rattle.settle.specs.Settle.{Ready};
-ghost use Rattle.clusters.specs.Clusters.{Detailed, Details, Displayed, Clustered};
+ghost use Rattle.clusters.specs.Clusters.{Unseen, Detailed, Details, Displayed, Clustered};
 
 const RULE: u8 = 6;
 
@@ -97,7 +103,7 @@ fn tell_divergence(
 
 // ---- details
 
-// Detail d over the members of root r: the columns filled, or an error.
+// Detail d over the members of root r, if any of them declares it: the columns filled, or an error.
 fn detail<'a>(
     image: &'a [u8],
     layout: Layout,
@@ -108,14 +114,19 @@ fn detail<'a>(
     ns: &mut [u64],
     members: &[usize],
     r: usize,
+    found: Seen,
     d: usize,
     report: &mut [u8],
     counted: Counted,
 ) -> Counted
-    requires { ⌜ Ready (now image) layout (now texts) s (now ks) (now ms) (now ns) (now members) × (r < layout .connectors .count) × (d ≤ displayDetail) × (total counted ≤ 3000000) ⌝ }
+    requires { ⌜ Ready (now image) layout (now texts) s (now ks) (now ms) (now ns) (now members) × (r < layout .connectors .count) × (d ≤ displayDetail) × (total counted ≤ 3000000)
+        × Unseen d s (now ks) (now ms) (now ns) (now members) (found .real) (found .integer) ⌝ }
     ensures { λ c. ⌜ Detailed (modelOf (now (image .entry))) r d s (now (ks .entry)) (now (members .entry)) (now (ms .entry)) (now (ns .entry)) (now (ms .exit)) (now (ns .exit))
         (now (report .entry)) counted (now (report .exit)) c ⌝ }
 {
+    if !is_seen(found, d) {
+        return counted;
+    }
     if settle(image, layout, texts, s, ks, ms, ns, members, d) {
         return tell_conflict(image, layout, r, d, report, counted);
     }
@@ -133,13 +144,16 @@ fn details<'a>(
     ns: &mut [u64],
     members: &[usize],
     r: usize,
+    found: Seen,
     report: &mut [u8],
     counted: Counted,
 ) -> Counted
-    requires { ⌜ Ready (now image) layout (now texts) s (now ks) (now ms) (now ns) (now members) × (r < layout .connectors .count) × (total counted ≤ 2000000) ⌝ }
+    requires { ⌜ Ready (now image) layout (now texts) s (now ks) (now ms) (now ns) (now members) × (r < layout .connectors .count) × (total counted ≤ 2000000)
+        × Sees (now ks) (now ms) (now members) (found .real) (found .integer) (length (now members)) ⌝ }
     ensures { λ c. ⌜ Details (modelOf (now (image .entry))) r s (now (ks .entry)) (now (members .entry)) (now (ms .entry)) (now (ns .entry)) (now (ms .exit)) (now (ns .exit))
         (now (report .entry)) counted (now (report .exit)) c unifiedDetails
-        × Ready (now (image .entry)) layout (now (texts .entry)) s (now (ks .entry)) (now (ms .exit)) (now (ns .exit)) (now (members .entry)) × (total c ≤ 3000000) ⌝ }
+        × Ready (now (image .entry)) layout (now (texts .entry)) s (now (ks .entry)) (now (ms .exit)) (now (ns .exit)) (now (members .entry)) × (total c ≤ 3000000)
+        × Unseen displayDetail s (now (ks .entry)) (now (ms .exit)) (now (ns .exit)) (now (members .entry)) (found .real) (found .integer) ⌝ }
 {
     let mut c = counted;
     let mut i = 0;
@@ -154,6 +168,7 @@ fn details<'a>(
             ns,
             members,
             r,
+            found,
             i + 1,
             report,
             c,
@@ -163,7 +178,7 @@ fn details<'a>(
     c
 }
 
-// Detail 7: a warning where display units differ.
+// Detail 7, if any member declares it: a warning where display units differ.
 fn display<'a>(
     image: &'a [u8],
     layout: Layout,
@@ -174,19 +189,74 @@ fn display<'a>(
     ns: &[u64],
     members: &[usize],
     r: usize,
+    found: Seen,
     report: &mut [u8],
     counted: Counted,
 ) -> Counted
-    requires { ⌜ Ready (now image) layout (now texts) s (now ks) (now ms) (now ns) (now members) × (r < layout .connectors .count) × (total counted ≤ 3000000) ⌝ }
+    requires { ⌜ Ready (now image) layout (now texts) s (now ks) (now ms) (now ns) (now members) × (r < layout .connectors .count) × (total counted ≤ 3000000)
+        × Unseen displayDetail s (now ks) (now ms) (now ns) (now members) (found .real) (found .integer) ⌝ }
     ensures { λ c. ⌜ Displayed (modelOf (now (image .entry))) r s (now (ks .entry)) (now (members .entry)) (now (ms .entry)) (now (ns .entry)) (now (report .entry)) counted (now (report .exit)) c ⌝ }
 {
+    if !is_seen(found, DISPLAY_DETAIL) {
+        return counted;
+    }
     if diverges(image, layout, texts, s, ks, ms, ns, members, DISPLAY_DETAIL) {
         return tell_divergence(image, layout, r, report, counted);
     }
     counted
 }
 
-// A cluster: details 1 to 6, then a warning where display units differ.
+// Details 1 to 7.
+fn all_details<'a>(
+    image: &'a [u8],
+    layout: Layout,
+    texts: &'a [usize],
+    s: usize,
+    ks: &[u8],
+    ms: &mut [u8],
+    ns: &mut [u64],
+    members: &[usize],
+    r: usize,
+    found: Seen,
+    report: &mut [u8],
+    counted: Counted,
+) -> Counted
+    requires { ⌜ Ready (now image) layout (now texts) s (now ks) (now ms) (now ns) (now members) × (r < layout .connectors .count) × (total counted ≤ 2000000)
+        × Sees (now ks) (now ms) (now members) (found .real) (found .integer) (length (now members)) ⌝ }
+    ensures { λ c. ⌜ Clustered (modelOf (now (image .entry))) r s (now (ks .entry)) (now (members .entry)) (now (ms .entry)) (now (ns .entry)) (now (ms .exit)) (now (ns .exit))
+        (now (report .entry)) counted (now (report .exit)) c ⌝ }
+{
+    let c = details(
+        image,
+        layout,
+        texts,
+        s,
+        ks,
+        ms,
+        ns,
+        members,
+        r,
+        found,
+        report,
+        counted,
+    );
+    display(
+        image,
+        layout,
+        texts,
+        s,
+        ks,
+        ms,
+        ns,
+        members,
+        r,
+        found,
+        report,
+        c,
+    )
+}
+
+// A cluster: details 1 to 6, then a warning where display units differ. Nothing is to be done where nothing is declared.
 pub fn cluster<'a>(
     image: &'a [u8],
     layout: Layout,
@@ -204,7 +274,11 @@ pub fn cluster<'a>(
     ensures { λ c. ⌜ Clustered (modelOf (now (image .entry))) r s (now (ks .entry)) (now (members .entry)) (now (ms .entry)) (now (ns .entry)) (now (ms .exit)) (now (ns .exit))
         (now (report .entry)) counted (now (report .exit)) c ⌝ }
 {
-    let c = details(
+    let found = seen_in(s, ks, ms, members);
+    if sees_nothing(found) {
+        return counted;
+    }
+    all_details(
         image,
         layout,
         texts,
@@ -214,8 +288,8 @@ pub fn cluster<'a>(
         ns,
         members,
         r,
+        found,
         report,
         counted,
-    );
-    display(image, layout, texts, s, ks, ms, ns, members, r, report, c)
+    )
 }

@@ -19,7 +19,7 @@ use Rattle.outcome.specs.Filled.{withSlots, filledOf}
 use Rattle.outcome.specs.Answer.{reportOf}
 use Rattle.moved.specs.Moved.{Bytes, Same}
 use Rattle.oce_model.proofs.Accepted.{Accepted, accepted, connectors-length, outputs-length}
-use Rattle.moved.proofs.Fixed.{filledTo-fixed, put-room}
+use Rattle.unify.proofs.Fixed.{filledTo-fixed, put-room}
 use Rattle.moved.proofs.Widths.{AllCaps, image-caps, filledTo-caps, six-numbers}
 use Rattle.moved.proofs.WellFormed.{filled-well}
 use Rattle.moved.proofs.Regions.{connectorSlots, outputSlots}

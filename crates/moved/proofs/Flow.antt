@@ -25,7 +25,7 @@ use Rattle.base.proofs.Members.{below-found, each-only}
 use Rattle.moved.proofs.Clusters.{alone, driven-root, from-lt, one-wire, out-driven, source-kind, source-lt, source-out, to-lt, wire-driven}
 use Rattle.moved.proofs.OneDetail.{Roomy}
 use Rattle.moved.proofs.SameRange.{OneKey, same-inside, same-units}
-use Rattle.moved.proofs.Fixed.{filledTo-fixed, put-kind}
+use Rattle.unify.proofs.Fixed.{filledTo-fixed, put-kind}
 use Rattle.moved.proofs.Settled.{one-key}
 use Rattle.moved.proofs.SomeValue.{pick, pick-fits}
 use Rattle.moved.proofs.Stars.{Quiet, Stars}

@@ -7,19 +7,20 @@ use mathlib.Core.Path.{_≡_, refl, sym, ap, _∙_}
 use mathlib.Core.Logic.{_≢_}
 use mathlib.Core.Bool.{Bool, true, false, cond}
 use mathlib.Core.List.{List, [], _∷_}
-use mathlib.Core.Option.{Option, none, some, Option·none-ne-some, Option·some-ne-none}
+use mathlib.Core.Option.{Option, none, some, Option·none-ne-some}
 use lib.ListN.{length, getD, set}
 use lib.Seq.{getD-set-same, getD-set-other, set-out}
 use lib.Dec.{eqb}
 use Rattle.base.specs.Lists.{all, steps}
 use Rattle.numbers.specs.Bytes.{bit}
-use Rattle.oce_model.specs.Attributes.{Attrs, declareAt, declaredAt, marked, noAttrs, num}
+use Rattle.oce_model.specs.Attributes.{Attrs, declareAt, declaredAt, noAttrs}
 use Rattle.oce_model.specs.Model.{Model}
 use Rattle.unify.specs.Clusters.{driven, isRoot}
 use Rattle.unify.specs.Slots.{Slots, agree, bitOf, kindOf, put, putAt, slot, slotsOf}
 use Rattle.unify.specs.Unify.{declared, fill, fillRoot, filledTo, fills, putAll, settle}
+use Rattle.unify.proofs.Declared.{unmarked, declareAt-kind, declareAt-other}
 use Rattle.moved.specs.Moved.{Kept}
-use Rattle.numbers.proofs.Bits.{bit-other, bit-same}
+use Rattle.numbers.proofs.Bits.{bit-other}
 
 pub Kept·refl : (a : Attrs) → Kept a a
 Kept·refl a = record { kind = refl; unbounded = (refl, refl); vals = λ p v h. h }
@@ -30,23 +31,6 @@ Kept·trans h k = record {
   unbounded = (k .unbounded .0 ∙ h .unbounded .0, k .unbounded .1 ∙ h .unbounded .1);
   vals = λ p v e. k .vals p v (h .vals p v e);
 }
-
--- where nothing is declared, the bit is clear
-pub unmarked : (a : Attrs) (p : ℕ) → declaredAt a p ≡ none → bit (a .marks) p ≡ false
-unfolding declaredAt
-unmarked a p h = arm (bit (a .marks) p) h
-  where
-    arm : (b : Bool) → marked b (num a p) ≡ none → b ≡ false
-    arm true h = absurd (Option·some-ne-none (num a p) h)
-    arm false h = refl
-
-pub declareAt-same : (a : Attrs) (p v : ℕ) → declaredAt a p ≡ none → p < length (a .nums) → declaredAt (declareAt a p v) p ≡ some v
-unfolding declaredAt declareAt
-declareAt-same a p v h l = rw (bit-same (a .marks) p (unmarked a p h)) (ap {B = Option ℕ} some (getD-set-same (a .nums) p v 0 l))
-
-pub declareAt-other : (a : Attrs) (p q v : ℕ) → declaredAt a p ≡ none → q ≢ p → declaredAt (declareAt a p v) q ≡ declaredAt a q
-unfolding declaredAt declareAt
-declareAt-other a p q v h n = rw (bit-other (a .marks) p q (unmarked a p h) n, getD-set-other (a .nums) p q v 0 n)
 
 pub bitOf-lt : (d : ℕ) → bitOf d < 6
 unfolding bitOf
@@ -59,10 +43,6 @@ bitOf-lt (suc (suc (suc (suc (suc zero))))) = omega arith
 bitOf-lt (suc (suc (suc (suc (suc (suc zero)))))) = omega arith
 bitOf-lt (suc (suc (suc (suc (suc (suc (suc zero))))))) = omega arith
 bitOf-lt (suc (suc (suc (suc (suc (suc (suc (suc n)))))))) = omega arith
-
-pub declareAt-kind : (a : Attrs) (p v : ℕ) → declareAt a p v .kind ≡ a .kind
-unfolding declareAt
-declareAt-kind a p v = refl
 
 declareAt-bit : (a : Attrs) (p q v : ℕ) → declaredAt a p ≡ none → q ≢ p → bit (declareAt a p v .marks) q ≡ bit (a .marks) q
 unfolding declareAt

@@ -3,9 +3,8 @@
 pub mod NoError
 pub mod Stars
 pub mod Clusters
--- rule 6: nothing declared changes, what it leaves alone, one detail of one cluster, only members are touched, all members end with one key
+-- rule 6: nothing declared changes, one detail of one cluster, only members are touched, all members end with one key
 pub mod Kept
-pub mod Fixed
 pub mod OneDetail
 pub mod Untouched
 pub mod Settled

@@ -19,8 +19,9 @@ use Rattle.unify.specs.Unify.{conflict, cons?, declared, fill, putAll, settle}
 use Rattle.moved.specs.Moved.{Kept}
 use Rattle.base.proofs.Lists.{same-sound}
 use Rattle.base.proofs.Members.{all-mem}
-use Rattle.moved.proofs.Fixed.{set-fixed, put-kind, put-room}
-use Rattle.moved.proofs.Kept.{bitOf-lt, declareAt-kind, declareAt-same, putAll-later}
+use Rattle.unify.proofs.Fixed.{set-fixed, put-kind, put-room}
+use Rattle.unify.proofs.Declared.{declareAt-kind, declareAt-same}
+use Rattle.moved.proofs.Kept.{bitOf-lt, putAll-later}
 
 slot-set : (σ : Slots) (j : ℕ) (x : Attrs) → j < length σ → slot (set σ j x) j ≡ x
 unfolding slot

@@ -5,21 +5,18 @@ use native.Mathlib.Decide.{ℕ-discrete}
 use native.Mathlib.Omega.{arith}
 use mathlib.Core.Path.{_≡_, refl, sym, ap, _∙_}
 use mathlib.Core.Logic.{_≢_}
-use mathlib.Core.Bool.{Bool, true, false, cond}
+use mathlib.Core.Bool.{true, false}
 use mathlib.Core.List.{List, [], _∷_, List·Memᴰ}
-use mathlib.Core.Option.{Option, none, some, Option·map}
+use mathlib.Core.Option.{Option·map}
 use lib.ListN.{length, getD}
-use lib.Dec.{eqb}
-use borrow.Author.Tests.{eqb-true}
 use Rattle.base.specs.Lists.{steps}
-use Rattle.oce_model.specs.Attributes.{Attrs, declaredAt}
 use Rattle.oce_model.specs.Model.{Model, boundaryOutputCount, connectorCount}
 use Rattle.unify.specs.Clusters.{driven, isRoot}
-use Rattle.unify.specs.Slots.{Slots, bitOf, key, kindOf, put, putAt, slot, slotsOf, value}
+use Rattle.unify.specs.Slots.{Slots, bitOf, key, kindOf, slot, slotsOf, value}
 use Rattle.unify.specs.Unify.{conflict, declared, fill, fillRoot, filledTo, fills}
 use Rattle.moved.proofs.Clusters.{apart}
-use Rattle.moved.proofs.Fixed.{fill-fixed, fills-fixed, filledTo-fixed, put-kind, put-room}
-use Rattle.moved.proofs.Kept.{declareAt-other}
+use Rattle.unify.proofs.Fixed.{fill-fixed, fills-fixed, filledTo-fixed, put-kind, put-room}
+use Rattle.unify.proofs.Declared.{value-put}
 use Rattle.moved.proofs.OneDetail.{Open, Roomy, fill-key, keyOf}
 use Rattle.moved.proofs.Stars.{Quiet, Stars}
 use Rattle.moved.proofs.Untouched.{between, filledTo-length, filledTo-suc, fills-length, slots-length}
@@ -44,27 +41,6 @@ other-bit : (d e : ℕ) → d < 6 → e < 6 → d ≢ e → kindOf (d + 1) ≡ k
 other-bit d e k l n p q =
     let s : d + 1 ≡ e + 1 = sym (detail-is d k) ∙ ap (λ x. detailOf x (bitOf (d + 1))) p ∙ ap (detailOf (kindOf (e + 1))) q ∙ detail-is e l in
     n (omega arith)
-
--- under another bit, or of another kind
-pub put-declaredAt : (e v : ℕ) (a : Attrs) (p : ℕ) → (a .kind ≡ kindOf e → p ≢ bitOf e) → declaredAt (put e v a) p ≡ declaredAt a p
-unfolding put
-put-declaredAt e v a p n = arm (eqb (a .kind) (kindOf e)) refl (declaredAt a (bitOf e)) refl
-  where
-    arm : (b : Bool) → eqb (a .kind) (kindOf e) ≡ b → (o : Option ℕ) → declaredAt a (bitOf e) ≡ o → declaredAt (cond b (putAt (bitOf e) v a o) a) p ≡ declaredAt a p
-    arm false h o q = refl
-    arm true h (some u) q = refl
-    arm true h none q = declareAt-other a (bitOf e) p v q (n (eqb-true _ _ h))
-
-value-put : (d e v : ℕ) → (kindOf d ≡ kindOf e → bitOf d ≢ bitOf e) → (a : Attrs) → value d (put e v a) ≡ value d a
-unfolding value put
-value-put d e v n a = rw (put-kind e v a) (arm (eqb (a .kind) (kindOf d)) refl)
-  where
-    at : ℕ
-    at = bitOf d
-
-    arm : (b : Bool) → eqb (a .kind) (kindOf d) ≡ b → cond b (declaredAt (put e v a) at) none ≡ cond b (declaredAt a at) none
-    arm false h = refl
-    arm true h = put-declaredAt e v a at (λ k. n (sym (eqb-true _ _ h) ∙ k))
 
 fills-suc : (m : Model) (js : List ℕ) (n : ℕ) (σ : Slots) → fills m js (suc n) σ ≡ fill m js (n + 1) (fills m js n σ)
 unfolding fills steps

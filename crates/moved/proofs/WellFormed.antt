@@ -26,7 +26,8 @@ use Rattle.numbers.proofs.Bits.{bit-other, bit-same}
 use Rattle.oce_model.proofs.Accepted.{Accepted, connectors-length, outputs-length}
 use Rattle.oce_model.proofs.Fields.{none-mem, nth, nth-mem, nth-tag}
 use Rattle.moved.proofs.Invariants.{All, filledTo-keeps}
-use Rattle.moved.proofs.Kept.{bitOf-lt, unmarked}
+use Rattle.unify.proofs.Declared.{unmarked}
+use Rattle.moved.proofs.Kept.{bitOf-lt}
 use Rattle.moved.proofs.Widths.{all-slots}
 
 -- each part of the two refusals' tests; n is the number of texts

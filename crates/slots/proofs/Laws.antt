@@ -50,7 +50,7 @@ value-declares d a = arm (eqb (a .kind) (kindOf d))
     arm false = refl
 
 -- what slot j declares, as the code reads it
-value-view : (s : ℕ) (ks ms ns : List ℕ) (j d : ℕ) → j < s
+pub value-view : (s : ℕ) (ks ms ns : List ℕ) (j d : ℕ) → j < s
     → value d (slot (view s ks ms ns) j) ≡ marked (declares d (getD ks j 0) (getD ms j 0)) (num (slot (view s ks ms ns) j) (bitOf d))
 value-view s ks ms ns j d h = value-declares d (slot (view s ks ms ns) j) ∙ rw (kind-view s ks ms ns j h, marks-view s ks ms ns j h)
 

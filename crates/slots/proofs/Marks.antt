@@ -1,20 +1,18 @@
 -- Laws of the byte of marks, and of the tables of details.
 -- Assumes nothing.
-use mathlib.Core.Path.{_≡_, refl, sym, _∙_}
+use mathlib.Core.Path.{_≡_, refl, sym, ap, _∙_}
 use mathlib.Core.Bool.{Bool, false}
-use mathlib.Core.List.{List, [], _∷_}
-use Prim.Native.Nat.{ℕ, zero, suc, _+_, _/_, _%_, _^_, _<_}
+use Prim.Native.Nat.{ℕ, zero, suc, _+_, _*_, _/_, _%_, _^_, _≤_, _<_}
+use native.Mathlib.Decide.{ℕ-discrete}
 use native.Mathlib.Omega.{arith}
-use lib.ListN.{getD}
 use borrow.Author.Tests.{eqb-false, eq-eqb, ne-eqb}
 use Rattle.numbers.specs.Bytes.{byteRange, bit}
-use Rattle.unify.specs.Slots.{kindOf, bitOf}
+use Rattle.oce_model.specs.Format.{realKind, integerKind}
+use Rattle.unify.specs.Slots.{displayDetail, kindOf, bitOf}
 use Rattle.slots.specs.Columns.{used, declares}
 
-abbrev weights : List ℕ
-weights = 1 ∷ 2 ∷ 4 ∷ 8 ∷ 16 ∷ 32 ∷ []
-
-pub weigh : (p : ℕ) → p < used → getD weights p 0 ≡ 2 ^ p
+-- a shift within the byte
+pub weigh : (p : ℕ) → p < used → 1 * 2 ^ p % byteRange ≡ 2 ^ p
 weigh zero h = refl
 weigh (suc zero) h = refl
 weigh (suc (suc zero)) h = refl
@@ -23,17 +21,34 @@ weigh (suc (suc (suc (suc zero)))) h = refl
 weigh (suc (suc (suc (suc (suc zero))))) h = refl
 weigh (suc (suc (suc (suc (suc (suc p)))))) h = absurd (omega arith)
 
-pub bit-small : (d : ℕ) → bitOf d < used
-unfolding bitOf
-bit-small zero = omega arith
-bit-small (suc zero) = omega arith
-bit-small (suc (suc zero)) = omega arith
-bit-small (suc (suc (suc zero))) = omega arith
-bit-small (suc (suc (suc (suc zero)))) = omega arith
-bit-small (suc (suc (suc (suc (suc zero))))) = omega arith
-bit-small (suc (suc (suc (suc (suc (suc zero)))))) = omega arith
-bit-small (suc (suc (suc (suc (suc (suc (suc zero))))))) = omega arith
-bit-small (suc (suc (suc (suc (suc (suc (suc (suc d)))))))) = omega arith
+-- the kind of each detail, by where it stands: Integer ends are details 5 and 6
+pub kind-low : (d : ℕ) → d < 5 → realKind ≡ kindOf d
+unfolding kindOf
+kind-low zero h = refl
+kind-low (suc zero) h = refl
+kind-low (suc (suc zero)) h = refl
+kind-low (suc (suc (suc zero))) h = refl
+kind-low (suc (suc (suc (suc zero)))) h = refl
+kind-low (suc (suc (suc (suc (suc d))))) h = absurd (omega arith)
+
+pub kind-integer : (d : ℕ) → 5 ≤ d → d ≤ 6 → integerKind ≡ kindOf d
+unfolding kindOf
+kind-integer d l h = arm (ℕ-discrete 5 d)
+  where
+    arm : Dec (5 ≡ d) → integerKind ≡ kindOf d
+    arm (yes e) = ap kindOf e
+    arm (no n) = let e : 6 ≡ d = omega arith in ap kindOf e
+
+pub kind-high : (d : ℕ) → 6 < d → d ≤ displayDetail → realKind ≡ kindOf d
+unfolding kindOf
+kind-high d l h = let e : displayDetail ≡ d = omega arith in ap kindOf e
+
+-- a number that is none of the details has none of their bits
+pub few-left : (d : ℕ) → d ≤ displayDetail → (d ≡ 4 → ⊥) → (d ≡ 5 → ⊥) → (d ≡ 6 → ⊥) → (d ≡ 7 → ⊥) → d < 4
+few-left d h k l m n = omega arith
+
+pub none-left : (d : ℕ) → d < 4 → (d ≡ 1 → ⊥) → (d ≡ 2 → ⊥) → (d ≡ 3 → ⊥) → 0 ≡ d
+none-left d h k l m = omega arith
 
 -- a byte in which a bit isn't set has room for it
 pub mark-fits : (m p : ℕ) → p < used → m < byteRange → bit m p ≡ false → m + 2 ^ p < byteRange

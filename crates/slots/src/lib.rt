@@ -31,17 +31,10 @@ pub fn kind_of(d: usize) -> usize
     requires { ⌜ d ≤ displayDetail ⌝ }
     ensures { λ r. ⌜ r ≡ kindOf d ⌝ }
 {
-    let kinds: [usize; 8] = [
-        0,
-        REAL_KIND,
-        REAL_KIND,
-        REAL_KIND,
-        REAL_KIND,
-        INTEGER_KIND,
-        INTEGER_KIND,
-        REAL_KIND,
-    ];
-    kinds[d]
+    match d {
+        5 | 6 => INTEGER_KIND,
+        _ => REAL_KIND,
+    }
 }
 
 // The bit that marks it there.
@@ -49,17 +42,16 @@ pub fn bit_of(d: usize) -> usize
     requires { ⌜ d ≤ displayDetail ⌝ }
     ensures { λ r. ⌜ (r ≡ bitOf d) × (r < used) ⌝ }
 {
-    let bits: [usize; 8] = [
-        0,
-        UNIT_BIT,
-        QUANTITY_BIT,
-        MIN_BIT,
-        MAX_BIT,
-        MIN_BIT,
-        MAX_BIT,
-        DISPLAY_UNIT_BIT,
-    ];
-    bits[d]
+    match d {
+        1 => UNIT_BIT,
+        2 => QUANTITY_BIT,
+        3 => MIN_BIT,
+        4 => MAX_BIT,
+        5 => MIN_BIT,
+        6 => MAX_BIT,
+        7 => DISPLAY_UNIT_BIT,
+        _ => 0,
+    }
 }
 
 // ---- marks
@@ -69,8 +61,7 @@ fn weight(p: usize) -> u8
     requires { ⌜ p < used ⌝ }
     ensures { λ r. ⌜ r ≡ 2 ^ p ⌝ }
 {
-    let weights: [u8; 6] = [1, 2, 4, 8, 16, 32];
-    weights[p]
+    1u8 << p
 }
 
 // Bit p of a byte is set.

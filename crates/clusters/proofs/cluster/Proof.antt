@@ -1,11 +1,9 @@
 -- `clusters::cluster` meets its contract.
 -- Assumes nothing.
 use borrow.Author.Needs.{needs}
-use Rattle.clusters.proofs.Laws.{cluster-all}
+use Rattle.clusters.proofs.Laws.{cluster-skip}
 use Rattle.clusters.proofs.cluster.Statement.{statement}
 use Rattle.clusters.proofs.cluster.Tie as tie
-
-ruleset mine = (cluster-all, needs)
 
 pub cluster-spec : {M : Type 1} → statement M
 cluster-spec =
@@ -14,6 +12,9 @@ cluster-spec =
     (λ c κs. search needs)
     (λ c κs. search needs)
     (λ c. search needs)
+    (λ c. search (cluster-skip, needs))
+    (λ c κs. search needs)
     (λ c. search needs)
     (λ c. search needs)
-    (λ c. search mine))
+    (λ c. search needs)
+    (λ c. search needs))

@@ -1,7 +1,8 @@
 -- `clusters::display` meets its contract.
 -- Assumes nothing.
 use borrow.Author.Needs.{needs}
-use Rattle.clusters.proofs.Laws.{display-none, display-differ}
+use borrow.Author.Tests.{not-true}
+use Rattle.clusters.proofs.Laws.{display-skip, display-none, display-differ}
 use Rattle.clusters.proofs.display.Statement.{statement}
 use Rattle.clusters.proofs.display.Tie as tie
 
@@ -11,6 +12,8 @@ pub display-spec : {M : Type 1} → statement M
 display-spec =
     tie.close
     (tie.spec
+    (λ c κs. search needs)
+    (λ c. search (display-skip, not-true, needs))
     (λ c κs. search needs)
     (λ c κs. search needs)
     (λ c. search needs)

@@ -1,10 +1,9 @@
 -- `slots::kind_of` meets its contract.
 -- Assumes nothing.
 use borrow.Author.Needs.{needs}
-use Rattle.unify.specs.Slots.{kindOf}
+use Rattle.slots.proofs.Marks.{kind-low, kind-integer, kind-high}
 use Rattle.slots.proofs.kind_of.Statement.{statement}
 use Rattle.slots.proofs.kind_of.Tie as tie
 
 pub kind-of-spec : {M : Type 1} → statement M
-unfolding kindOf
-kind-of-spec = tie.close (tie.spec (λ c. search needs) (λ c. search needs) (λ c. search needs))
+kind-of-spec = tie.close (tie.spec (λ c. kind-integer _ (search needs) (search needs)) (λ c. kind-low _ (search needs)) (λ c. kind-high _ (search needs) (search needs)))

@@ -13,10 +13,9 @@ use lib.Dec.{eqb}
 use Rattle.base.specs.Lists.{all, steps}
 use Rattle.oce_model.specs.Attributes.{Attrs, declareAt, declaredAt, noAttrs}
 use Rattle.oce_model.specs.Model.{Model}
 use Rattle.unify.specs.Clusters.{driven, isRoot}
 use Rattle.unify.specs.Slots.{Slots, agree, bitOf, kindOf, put, putAt, slot, slotsOf}
 use Rattle.unify.specs.Unify.{declared, fill, fillRoot, filledTo, fills, putAll, settle}
-use Rattle.moved.proofs.Kept.{put-kept}
 
 module _ {X : Type 0} (g : Attrs → X) where
   -- one slot set to attributes that g doesn't tell from its own
@@ -70,7 +69,13 @@ module _ {X : Type 0} (g : Attrs → X) where
 -- ---- `put` leaves the kind alone, and how many numbers there are
 
 pub put-kind : (d v : ℕ) (a : Attrs) → put d v a .kind ≡ a .kind
-put-kind d v a = put-kept d v a .kind
+unfolding put declareAt
+put-kind d v a = arm (eqb (a .kind) (kindOf d)) (declaredAt a (bitOf d))
+  where
+    arm : (b : Bool) (o : Option ℕ) → cond b (putAt (bitOf d) v a o) a .kind ≡ a .kind
+    arm false o = refl
+    arm true none = refl
+    arm true (some u) = refl
 
 pub put-room : (d v : ℕ) (a : Attrs) → length (put d v a .nums) ≡ length (a .nums)
 unfolding put declareAt

@@ -1,0 +1,19 @@
+-- `clusters::all_details` meets its contract.
+-- Assumes nothing.
+use borrow.Author.Needs.{needs}
+use Rattle.clusters.proofs.Laws.{cluster-all}
+use Rattle.clusters.proofs.all_details.Statement.{statement}
+use Rattle.clusters.proofs.all_details.Tie as tie
+
+ruleset mine = (cluster-all, needs)
+
+pub all-details-spec : {M : Type 1} → statement M
+all-details-spec =
+    tie.close
+    (tie.spec
+    (λ c κs. search needs)
+    (λ c κs. search needs)
+    (λ c. search needs)
+    (λ c. search needs)
+    (λ c. search needs)
+    (λ c. search mine))

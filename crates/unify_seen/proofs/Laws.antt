@@ -1,0 +1,147 @@
+-- Laws of what the members of a cluster declare.
+-- Assumes nothing.
+use Prim.Native.Nat.{ℕ, zero, suc, _+_, _/_, _%_, _^_, _≤_, _<_}
+use native.Mathlib.Nat.{mod-lt, zero-div}
+use native.Mathlib.Decide.{ℕ-discrete}
+use native.Mathlib.Omega.{arith}
+use mathlib.Core.Path.{_≡_, refl, sym, ap, _∙_}
+use mathlib.Core.Bool.{Bool, true, false, cond, _&&_, false≢true}
+use mathlib.Core.List.{List, [], _∷_}
+use mathlib.Core.Option.{none}
+use lib.Bits.{bitOr, or-shr, or-mod}
+use lib.Dec.{eqb}
+use lib.ListN.{length, getD}
+use borrow.Author.Tests.{eqb-true, eqb-false, eq-eqb, ne-eqb}
+use Rattle.numbers.specs.Bytes.{bit}
+use Rattle.oce_model.specs.Format.{realKind, integerKind}
+use Rattle.unify.specs.Slots.{Slots, slot, kindOf, bitOf, value}
+use Rattle.unify.specs.Unify.{declared}
+use Rattle.slots.specs.Columns.{view, declares, Inside}
+use Rattle.slots.proofs.Laws.{value-view}
+use Rattle.unify_seen.specs.Seen.{Holds, TakenIn, Sees, shows}
+
+-- ---- bits
+
+-- of two digits
+digit-or : (x y : ℕ) → x < 2 → y < 2 → eqb (bitOr x y) 1 ≡ false → (eqb x 1 ≡ false) × (eqb y 1 ≡ false)
+digit-or zero zero h l e = (refl, refl)
+digit-or zero (suc zero) h l e = (refl, e)
+digit-or (suc zero) zero h l e = (e, refl)
+digit-or (suc zero) (suc zero) h l e = (e, e)
+digit-or zero (suc (suc y)) h l e = absurd (omega arith)
+digit-or (suc zero) (suc (suc y)) h l e = absurd (omega arith)
+digit-or (suc (suc x)) y h l e = absurd (omega arith)
+
+-- a bit that isn't set in `a | b` is set in neither
+or-clear : (a b p : ℕ) → bit (bitOr a b) p ≡ false → (bit a p ≡ false) × (bit b p ≡ false)
+unfolding bit
+or-clear a b p e =
+    let s : bitOr a b / 2 ^ p % 2 ≡ bitOr (a / 2 ^ p % 2) (b / 2 ^ p % 2) = ap (λ x. x % 2) (or-shr a b p) ∙ or-mod (a / 2 ^ p) (b / 2 ^ p) 1 in
+    digit-or (a / 2 ^ p % 2) (b / 2 ^ p % 2) (mod-lt (a / 2 ^ p) (omega arith)) (mod-lt (b / 2 ^ p) (omega arith)) (ap (λ x. eqb x 1) (sym s) ∙ e)
+
+bit-zero : (p : ℕ) → bit 0 p ≡ false
+unfolding bit
+bit-zero p = rw (zero-div (2 ^ p))
+
+-- ---- one member
+
+module _ (k kind marks b : ℕ) {x : ℕ} (ex : x ≡ kind) where
+  pub taken-kind : x ≡ k → TakenIn k kind marks b (bitOr b marks)
+  taken-kind e = record { old = λ p h. or-clear b marks p h .0; new = λ p f h. or-clear b marks p h .1 }
+
+  pub taken-other : (x ≡ k → ⊥) → TakenIn k kind marks b b
+  taken-other n = record { old = λ p h. h; new = λ p f h. absurd (n (ex ∙ f)) }
+
+-- ---- all members
+
+holds-turn : {k : ℕ} {ks ms js : List ℕ} {b n b′ : ℕ} → Holds k ks ms js b n → TakenIn k (getD ks (getD js n 0) 0) (getD ms (getD js n 0) 0) b b′ → Holds k ks ms js b′ (n + 1)
+holds-turn {k} {ks} {ms} {js} {b} {n} {b′} v t = record { each = λ i p h. arm i p h (ℕ-discrete i n) }
+  where
+    arm : (i p : ℕ) → i < n + 1 → Dec (i ≡ n) → getD ks (getD js i 0) 0 ≡ k → bit b′ p ≡ false → bit (getD ms (getD js i 0) 0) p ≡ false
+    arm i p h (yes e) f c = rw e (t .new p (rw e at f) c)
+    arm i p h (no m) f c = v .each i p (omega arith) f (t .old p c)
+
+module _ {ks ms js : List ℕ} where
+  pub sees-start : {real integer : ℕ} → Sees ks ms js real integer 0
+  sees-start = record { within = omega arith; reals = record { each = λ i p h. absurd (omega arith) }; integers = record { each = λ i p h. absurd (omega arith) } }
+
+  pub sees-turn : {real integer n real′ integer′ : ℕ} → Sees ks ms js real integer n → TakenIn realKind (getD ks (getD js n 0) 0) (getD ms (getD js n 0) 0) real real′
+      → TakenIn integerKind (getD ks (getD js n 0) 0) (getD ms (getD js n 0) 0) integer integer′ → n < length js → Sees ks ms js real′ integer′ (n + 1)
+  sees-turn v t u h = record { within = omega arith; reals = holds-turn (v .reals) t; integers = holds-turn (v .integers) u }
+
+  pub sees-all : {real integer n : ℕ} → Sees ks ms js real integer n → length js ≤ n → Sees ks ms js real integer (length js)
+  sees-all {n = n} v h = let e : length js ≡ n = omega (arith, v .within) in rw e v
+
+pub member-inside : (s : ℕ) (js : List ℕ) (i n : ℕ) → Inside s js → i < length js → s ≤ n → getD js i 0 < n
+member-inside s js i n v h l = omega (arith, v .each i h)
+
+-- ---- a detail
+
+module _ (d real integer : ℕ) {k p : ℕ} {r : Bool} (ek : k ≡ kindOf d) (ep : p ≡ bitOf d) where
+  pub shows-real : r ≡ bit real p → k ≡ realKind → r ≡ shows d real integer
+  unfolding shows
+  shows-real er e = er ∙ rw (eq-eqb (kindOf d) realKind (sym ek ∙ e), ep)
+
+  pub shows-integer : r ≡ bit integer p → (k ≡ realKind → ⊥) → r ≡ shows d real integer
+  unfolding shows
+  shows-integer er n = er ∙ rw (ne-eqb (kindOf d) realKind (λ e. n (ek ∙ e)), ep)
+
+kind-two : (d : ℕ) → kindOf d < 2
+unfolding kindOf
+kind-two zero = omega arith
+kind-two (suc zero) = omega arith
+kind-two (suc (suc zero)) = omega arith
+kind-two (suc (suc (suc zero))) = omega arith
+kind-two (suc (suc (suc (suc zero)))) = omega arith
+kind-two (suc (suc (suc (suc (suc zero))))) = omega arith
+kind-two (suc (suc (suc (suc (suc (suc zero)))))) = omega arith
+kind-two (suc (suc (suc (suc (suc (suc (suc zero))))))) = omega arith
+kind-two (suc (suc (suc (suc (suc (suc (suc (suc d)))))))) = omega arith
+
+declares-false : (d k m : ℕ) → (k ≡ kindOf d → bit m (bitOf d) ≡ false) → declares d k m ≡ false
+unfolding declares
+declares-false d k m h = arm (eqb k (kindOf d)) refl
+  where
+    arm : (b : Bool) → eqb k (kindOf d) ≡ b → (b && bit m (bitOf d)) ≡ false
+    arm true e = h (eqb-true _ _ e)
+    arm false e = refl
+
+none-declared : (d : ℕ) (σ : Slots) (js : List ℕ) → ((i : ℕ) → i < length js → value d (slot σ (getD js i 0)) ≡ none) → declared d σ js ≡ []
+unfolding declared
+none-declared d σ [] h = refl
+none-declared d σ (j ∷ js) h = rw (h 0 (omega arith)) (none-declared d σ js (λ i l. h (suc i) (omega arith)))
+
+-- what shows in neither byte no member declares
+module _ {ks ms js : List ℕ} {real integer : ℕ} (v : Sees ks ms js real integer (length js)) where
+  unmarked : (d : ℕ) → shows d real integer ≡ false → (i : ℕ) → i < length js → getD ks (getD js i 0) 0 ≡ kindOf d → bit (getD ms (getD js i 0) 0) (bitOf d) ≡ false
+  unfolding shows
+  unmarked d e i h f = arm (eqb (kindOf d) realKind) refl e
+    where
+      arm : (b : Bool) → eqb (kindOf d) realKind ≡ b → bit (cond b real integer) (bitOf d) ≡ false → bit (getD ms (getD js i 0) 0) (bitOf d) ≡ false
+      arm true q c = v .reals .each i (bitOf d) h (f ∙ eqb-true _ _ q) c
+      arm false q c =
+          let n : kindOf d ≡ realKind → ⊥ = eqb-false _ _ q in
+          let k : kindOf d ≡ integerKind = omega (arith, kind-two d) in
+          v .integers .each i (bitOf d) h (f ∙ k) c
+
+  pub undeclared : (d s : ℕ) (ns : List ℕ) → Inside s js → shows d real integer ≡ false → declared d (view s ks ms ns) js ≡ []
+  undeclared d s ns w e =
+      none-declared d (view s ks ms ns) js
+      (λ i h. value-view s ks ms ns (getD js i 0) d (w .each i h) ∙ rw (declares-false d (getD ks (getD js i 0) 0) (getD ms (getD js i 0) 0) (unmarked d e i h)))
+
+-- nothing is set in bytes that are 0
+pub nothing-shows : (real integer : ℕ) {t : Bool} → t ≡ (eqb real 0 && eqb integer 0) → t ≡ true → (d : ℕ) → shows d real integer ≡ false
+unfolding shows
+nothing-shows real integer et e d = arm (eqb real 0) refl (eqb integer 0) refl (sym et ∙ e) (eqb (kindOf d) realKind)
+  where
+    arm : (b : Bool) → eqb real 0 ≡ b → (c : Bool) → eqb integer 0 ≡ c → (b && c) ≡ true → (k : Bool) → bit (cond k real integer) (bitOf d) ≡ false
+    arm true f true g h true = rw (eqb-true real 0 f) (bit-zero (bitOf d))
+    arm true f true g h false = rw (eqb-true integer 0 g) (bit-zero (bitOf d))
+    arm true f false g h k = absurd (false≢true h)
+    arm false f c g h k = absurd (false≢true h)
+
+pub nothing-both : (real integer : ℕ) → real ≡ 0 → eqb integer 0 ≡ (eqb real 0 && eqb integer 0)
+nothing-both real integer e = rw (eq-eqb real 0 e)
+
+pub nothing-not : (real integer : ℕ) → (real ≡ 0 → ⊥) → false ≡ (eqb real 0 && eqb integer 0)
+nothing-not real integer n = rw (ne-eqb real 0 n)
