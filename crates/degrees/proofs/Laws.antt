@@ -8,6 +8,8 @@ use mathlib.Core.List.{List}
 use lib.Dec.{eqb}
 use lib.ListN.{length, getD, set, replicate, length-set, length-replicate, List·getD-eq-default}
 use lib.Seq.{getD-set-same, getD-set-other}
+use mir.Syntax.{w64}
+use mir.Val.{Fits}
 use borrow.Author.Tests.{lt-ltb}
 use Rattle.base.specs.Lists.{tally}
 use Rattle.base.proofs.Lists.{tally-add, tally-same, tally-le}
@@ -76,6 +78,9 @@ module _ {s : List ℕ} {l : Layout} (h : Laid s l) where
   -- each place can grow by one portion more
   pub counts-spare : {k n : ℕ} {ds : List ℕ} → Counts (modelOf s) k ds → k + n ≤ l .connections .count → Spare ds n
   counts-spare c q = record { at = λ j. let f = counts-few c j in let g = connections-few h in omega arith }
+
+  pub counts-fit : {k : ℕ} → k ≤ l .connections .count → Fits w64 k
+  counts-fit q = record { fits = omega (arith, connections-few h) }
 
   -- all portions are counted
   pub counts-all : {k : ℕ} {ds : List ℕ} → Counts (modelOf s) k ds → k ≤ l .connections .count → l .connections .count ≤ k → l .connectors .count ≤ length ds → Degrees (modelOf s) ds

@@ -1,9 +1,7 @@
 -- `degrees::count_portion` meets its contract.
 -- Assumes nothing.
 use borrow.Author.Needs.{needs}
-use native.Mathlib.Omega.{arith}
-use Rattle.records.proofs.Laws.{connections-few}
-use Rattle.degrees.proofs.Laws.{counts-spare, counts-portion, counts-length}
+use Rattle.degrees.proofs.Laws.{counts-spare, counts-fit, counts-portion, counts-length}
 use Rattle.degrees.proofs.count_portion.Statement.{statement}
 use Rattle.degrees.proofs.count_portion.Tie as tie
 
@@ -14,6 +12,6 @@ count-portion-spec =
     (λ c κs. search needs)
     (λ c κs. search needs)
     (λ c κs. search (counts-spare, needs))
-    (λ c. omega (arith, connections-few (c .before .before .before .before .before .before .before .before .before .pre .0)))
+    (λ c. search (counts-fit, needs))
     (λ c. search needs)
     (λ c. search (counts-portion, counts-length, needs)))
