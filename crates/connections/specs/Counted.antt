@@ -8,6 +8,10 @@ use Rattle.base.specs.Lists.{tab, tally}
 use Rattle.oce_model.specs.Model.{noConnection}
 use Rattle.oce_model.specs.declared.Connection.{Connection}
 
+-- so many connections are lent at once
+abbrev pub portion : ℕ
+portion = 64
+
 -- how many of the first n connections lead to the id, as `degree` of crate structural counts them
 abbrev pub leadTo : List Connection → ℕ → ℕ → ℕ
 leadTo cs n id = tally n (λ k. eqb (getD cs k noConnection .to) id)

@@ -1,11 +1,12 @@
 // Connections, lent as a list of from-and-to pairs to the degree count: the Rust's `in_degrees`.
 use oce_model::Connection;
-use oce_model::MOST_CONNECTIONS;
 ghost use mathlib.Core.Path.{_≡_};
 ghost use Prim.Native.Nat.{_≤_};
 ghost use lib.ListN.{length};
-ghost use Rattle.oce_model.specs.Format.{mostConnections};
-ghost use Rattle.connections.specs.Counted.{counted, Spare};
+ghost use Rattle.connections.specs.Counted.{portion, counted, Spare};
+
+// So many connections are lent at once.
+pub const PORTION: usize = 64;
 
 // Adds to each place of `degrees` how many connections lead to it, in one pass. A `to` past the end counts nowhere.
 pub fn in_degrees(connections: &[Connection], degrees: &mut [u32])
@@ -22,9 +23,9 @@ pub fn in_degrees(connections: &[Connection], degrees: &mut [u32])
     }
 }
 
-// The same of the first n of an array, which are lent as a list.
-pub fn degrees_of(connections: [Connection; MOST_CONNECTIONS], n: usize, degrees: &mut [u32])
-    requires { ⌜ (n ≤ mostConnections) × Spare (now degrees) n ⌝ }
+// The same of the first n of a portion, which are lent as a list.
+pub fn degrees_of(connections: [Connection; PORTION], n: usize, degrees: &mut [u32])
+    requires { ⌜ (n ≤ portion) × Spare (now degrees) n ⌝ }
     ensures { λ _. ⌜ now (degrees .exit) ≡ counted (now (degrees .entry)) connections n ⌝ }
 {
     in_degrees(&connections[..n], degrees)

@@ -1,7 +1,6 @@
--- Laws of the column of in-degrees, one connection more at a time.
+-- Laws of the column of in-degrees, one portion of connections more at a time.
 -- Assumes nothing.
-use Prim.Native.Nat.{ℕ, zero, _+_, _<_, _≤_}
-use native.Mathlib.Nat.{zero-add}
+use Prim.Native.Nat.{ℕ, _+_, _<_, _≤_}
 use native.Mathlib.Decide.{decLt, ℕ-discrete}
 use native.Mathlib.Omega.{arith}
 use mathlib.Core.Path.{_≡_, refl, sym, ap, _∙_}
@@ -9,73 +8,90 @@ use mathlib.Core.List.{List}
 use lib.Dec.{eqb}
 use lib.ListN.{length, getD, set, replicate, length-set, length-replicate, List·getD-eq-default}
 use lib.Seq.{getD-set-same, getD-set-other}
+use mir.Syntax.{w64}
+use mir.Val.{Fits}
 use borrow.Author.Tests.{lt-ltb}
-use Rattle.base.proofs.Lists.{tally-same}
-use Rattle.oce_model.specs.Format.{mostConnections}
+use Rattle.base.specs.Lists.{tally}
+use Rattle.base.proofs.Lists.{tally-add, tally-same, tally-le}
 use Rattle.oce_model.specs.Model.{Model, modelOf, noConnection, connection, connectorCount, connectionCount}
 use Rattle.oce_model.specs.declared.Connection.{Connection}
 use Rattle.structural.specs.Degrees.{degree}
 use Rattle.accept.specs.Layout.{Laid}
 use Rattle.accept.specs.declared.Layout.{Layout}
 use Rattle.records.proofs.Laws.{connectors-counted, connections-counted, connections-few}
-use Rattle.connections.specs.Counted.{leadTo, counted, Spare}
+use Rattle.connections.specs.Counted.{portion, counted, Spare}
 use Rattle.connections.proofs.Laws.{counted-length, counted-at}
-use Rattle.degrees.specs.Columns.{Clears, Reads, Degrees}
+use Rattle.degrees.specs.Columns.{Clears, Reads, Counts, Degrees}
 
--- ---- degrees
+-- ---- a portion that connections are read into, one after the other
 
--- the list's counting is the model's
-leads-degree : (m : Model) (list : List Connection) (i : ℕ) → Reads m (connectionCount m) list → i < connectorCount m → leadTo list (connectionCount m) i ≡ degree m i
-unfolding degree
-leads-degree m list i r l = tally-same (connectionCount m) _ _ (λ j k. ap (λ (c : Connection). eqb (c .to) i) (r .each j k)) ∙ rw (lt-ltb i (connectorCount m) l)
+pub reads-start : {m : Model} {first : ℕ} {c : Connection} → Reads m first 0 (replicate portion c)
+reads-start {c = c} = record { long = length-replicate portion c; each = λ j l. absurd (omega arith) }
 
--- an array that the connections are read into, one after the other
-pub reads-start : {m : Model} {c : Connection} → Reads m 0 (replicate mostConnections c)
-reads-start {c = c} = record { long = length-replicate mostConnections c; each = λ j l. absurd (omega arith) }
+pub reads-room : {m : Model} {first k : ℕ} {list : List Connection} → Reads m first k list → k < portion → k < length list
+reads-room h l = let s = h .long in omega arith
 
-read-on : {m : Model} {k : ℕ} {list : List Connection} {c : Connection} → Reads m k list → c ≡ connection m k → k < length list → Reads m (k + 1) (set list k c)
-read-on {m} {k} {list} {c} h e l = record { long = length-set list k c ∙ h .long; each = go }
+pub reads-more : {m : Model} {first k : ℕ} {list : List Connection} {c : Connection} → Reads m first k list → c ≡ connection m (first + k) → k < portion → Reads m first (k + 1) (set list k c)
+reads-more {m} {first} {k} {list} {c} h e l = record { long = length-set list k c ∙ h .long; each = go }
   where
-    go : (j : ℕ) → j < k + 1 → getD (set list k c) j noConnection ≡ connection m j
-    go j n = arm (ℕ-discrete j k)
+    go : (j : ℕ) → j < k + 1 → getD (set list k c) j noConnection ≡ connection m (first + j)
+    go j q = arm (ℕ-discrete j k)
       where
-        arm : Dec (j ≡ k) → getD (set list k c) j noConnection ≡ connection m j
-        arm (yes q) = ap (λ x. getD (set list k c) x noConnection) q ∙ getD-set-same list k c noConnection l ∙ e ∙ ap (connection m) (sym q)
-        arm (no q) = getD-set-other list k j c noConnection q ∙ h .each j (omega arith)
+        arm : Dec (j ≡ k) → getD (set list k c) j noConnection ≡ connection m (first + j)
+        arm (yes r) = ap (λ x. getD (set list k c) x noConnection) r ∙ getD-set-same list k c noConnection (reads-room h l) ∙ e ∙ ap (λ x. connection m (first + x)) (sym r)
+        arm (no r) = getD-set-other list k j c noConnection r ∙ h .each j (omega arith)
 
-pub reads-end : {m : Model} {k n : ℕ} {list : List Connection} → Reads m k list → n ≤ k → Reads m n list
-reads-end h l = record { long = h .long; each = λ j n. h .each j (omega arith) }
+pub reads-end : {m : Model} {first k n : ℕ} {list : List Connection} → Reads m first k list → n ≤ k → Reads m first n list
+reads-end h l = record { long = h .long; each = λ j q. h .each j (omega arith) }
 
--- a column of zeros can grow by as many as there are
-pub spare-zeros : {k : ℕ} {ds₀ ds : List ℕ} → Clears ds₀ (length ds₀) ds → k ≤ mostConnections → Spare ds k
-spare-zeros {k} {ds₀} {ds} z l = record { at = λ j. let e = zero-at j (decLt j (length ds₀)) in omega arith }
-  where
-    zero-at : (j : ℕ) → Dec (j < length ds₀) → getD ds j 0 ≡ 0
-    zero-at j (yes q) = z .zeros j q
-    zero-at j (no q) = List·getD-eq-default ds 0 (let s = z .same in omega arith)
+-- ---- portions counted, one after the other
+
+pub counts-start : {m : Model} {ds₀ ds : List ℕ} → Clears ds₀ (length ds₀) ds → Counts m 0 ds
+unfolding tally
+counts-start h = record { each = λ i l. h .zeros i (let s = h .same in omega arith) }
+
+module _ {m : Model} {k : ℕ} {ds : List ℕ} (h : Counts m k ds) where
+  -- no place holds more than k
+  counts-few : (i : ℕ) → getD ds i 0 ≤ k
+  counts-few i = arm (decLt i (length ds))
+    where
+      arm : Dec (i < length ds) → getD ds i 0 ≤ k
+      arm (yes l) = let e = h .each i l in let f = tally-le k (λ j. eqb (connection m j .to) i) in omega arith
+      arm (no l) = let e : getD ds i 0 ≡ 0 = List·getD-eq-default ds 0 (omega arith) in omega arith
+
+  module _ {n : ℕ} {list : List Connection} {ds′ : List ℕ} (r : Reads m k n list) (e : ds′ ≡ counted ds list n) where
+    pub counts-length : length ds′ ≡ length ds
+    counts-length = ap length e ∙ counted-length ds list n
+
+    -- a portion after the first k
+    pub counts-portion : Counts m (k + n) ds′
+    counts-portion = record { each = go }
+      where
+        go : (i : ℕ) → i < length ds′ → getD ds′ i 0 ≡ tally (k + n) (λ j. eqb (connection m j .to) i)
+        go i l =
+            let inside : i < length ds = (let s = counts-length in omega arith) in
+            ap (λ xs. getD xs i 0) e ∙ counted-at ds list n i inside
+            ∙ rw (h .each i inside, tally-same n (λ j. eqb (getD list j noConnection .to) i) (λ j. eqb (connection m (k + j) .to) i) (λ j q. ap (λ (c : Connection). eqb (c .to) i) (r .each j q)))
+            (sym (tally-add k n (λ j. eqb (connection m j .to) i)))
 
 module _ {s : List ℕ} {l : Layout} (h : Laid s l) where
-  pub reads-room : {k : ℕ} {list : List Connection} → Reads (modelOf s) k list → k < l .connections .count → k < length list
-  reads-room p q = let f = connections-few h in let n = p .long in omega arith
+  -- each place can grow by one portion more
+  pub counts-spare : {k n : ℕ} {ds : List ℕ} → Counts (modelOf s) k ds → k + n ≤ l .connections .count → Spare ds n
+  counts-spare c q = record { at = λ j. let f = counts-few c j in let g = connections-few h in omega arith }
 
-  pub reads-more : {k : ℕ} {list : List Connection} {c : Connection} → Reads (modelOf s) k list → c ≡ connection (modelOf s) k → k < l .connections .count → Reads (modelOf s) (k + 1) (set list k c)
-  reads-more p e q = read-on p e (reads-room p q)
+  pub counts-fit : {k : ℕ} → k ≤ l .connections .count → Fits w64 k
+  counts-fit q = record { fits = omega (arith, connections-few h) }
 
-  -- the degrees, from zeros on
-  module _ {list : List Connection} {ds₀ ds ds′ : List ℕ} (p : Reads (modelOf s) (l .connections .count) list) (z : Clears ds₀ (length ds₀) ds) (e : ds′ ≡ counted ds list (l .connections .count)) where
-    pub degrees-length : length ds′ ≡ length ds₀
-    degrees-length = ap length e ∙ counted-length ds list (l .connections .count) ∙ z .same
-
-    pub degrees-all : l .connectors .count ≤ length ds₀ → Degrees (modelOf s) ds′
-    degrees-all r = record { room = let many = connectors-counted h in let kept = degrees-length in omega arith; each = go }
-      where
-        go : (i : ℕ) → i < connectorCount (modelOf s) → getD ds′ i 0 ≡ degree (modelOf s) i
-        go i q =
-            let many = connectors-counted h in
-            let kept = z .same in
-            let inside : i < length ds = omega arith in
-            let zero : getD ds i 0 ≡ 0 = z .zeros i (omega arith) in
-            ap (λ xs. getD xs i 0) e ∙ counted-at ds list (l .connections .count) i inside ∙ rw (zero, zero-add, connections-counted h) (leads-degree (modelOf s) list i (rw (sym (connections-counted h)) p) q)
+  -- all portions are counted
+  pub counts-all : {k : ℕ} {ds : List ℕ} → Counts (modelOf s) k ds → k ≤ l .connections .count → l .connections .count ≤ k → l .connectors .count ≤ length ds → Degrees (modelOf s) ds
+  unfolding degree
+  counts-all {k} {ds} c p q r = record { room = (let n = connectors-counted h in omega arith); each = go }
+    where
+      go : (i : ℕ) → i < connectorCount (modelOf s) → getD ds i 0 ≡ degree (modelOf s) i
+      go i b =
+          let inside : i < length ds = (let n = connectors-counted h in omega arith) in
+          let all : k ≡ connectionCount (modelOf s) = (let n = connections-counted h in omega arith) in
+          c .each i inside ∙ rw (lt-ltb i (connectorCount (modelOf s)) b, all)
 
 -- ---- entries set to 0, one after the other
 

@@ -9,6 +9,7 @@ use mathlib.Core.List.{List, _++_, append-assoc}
 use lib.Dec.{eqb}
 use lib.ListN.{length, getD, replicate, length-replicate}
 use borrow.Author.Tests.{eq-eqb, ne-eqb, eqb-true, eqb-false}
+use Rattle.oce_model.specs.Format.{mostExternalInputs}
 use Rattle.oce_model.specs.Model.{Model, modelOf, connectorCount}
 use Rattle.oce_diag.specs.Diagnostics.{hasError, errors}
 use Rattle.oce_diag.specs.declared.Diagnostic.{Diagnostic}
@@ -19,15 +20,15 @@ use Rattle.oce_diag.proofs.Putting.{put-then}
 use Rattle.accept.specs.Layout.{Laid}
 use Rattle.accept.specs.declared.Layout.{Layout}
 use Rattle.base.specs.Lists.{any, keep}
-use Rattle.externals.specs.Columns.{columnLength, Lists}
-use Rattle.records.proofs.Laws.{connectors-few, connectors-counted}
+use Rattle.externals.specs.Columns.{half, Lists}
+use Rattle.records.proofs.Laws.{connectors-few, connectors-counted, externals-few, externals-counted}
 use Rattle.slots.specs.Columns.{slotCount}
 use Rattle.structural.specs.Structural.{rule1, rule2, rule3, rule4}
 use Rattle.crossed_bounds.specs.CrossedBounds.{rule5}
 use Rattle.unify.specs.Unify.{rule6, propagated}
 use Rattle.unify_clusters.specs.Unified.{wholeRule6, Unified}
 use Rattle.outcome.specs.Report.{allRules, report}
-use Rattle.rules.specs.Ran.{none, firstFive, mostDiagnostics, Ran}
+use Rattle.rules.specs.Ran.{fewRecords, none, firstFive, mostDiagnostics, Ran}
 
 all-is : (m : Model) → firstFive m ++ rule6 m ≡ allRules m
 unfolding firstFive allRules
@@ -78,11 +79,24 @@ zeros-at zero i = refl
 zeros-at (suc n) zero = refl
 zeros-at (suc n) (suc i) = zeros-at n i
 
-pub nothing-listed : (m : Model) → Lists m 0 0 (replicate columnLength 0)
+-- a column of c zeros lists none of at most n external inputs
+nothing-listed : (m : Model) (c n : ℕ) → half c ≡ n → n + n < c → length (m .externalInputs) ≤ n → Lists m 0 0 (replicate c 0)
 unfolding any keep
-nothing-listed m = record {
-  room = omega (arith, length-replicate {A = ℕ} columnLength 0);
-  each = λ i l. zeros-at columnLength i;
-  few = omega arith;
-  rest = refl;
-}
+nothing-listed m c n e room few =
+    let long : length {A = ℕ} (replicate c 0) ≡ c = length-replicate c 0 in
+    record {
+      room = rw (long, e) room;
+      serves = rw (long, e) few;
+      each = λ i l. zeros-at c i;
+      few = omega arith;
+      rest = refl;
+    }
+
+module _ {s : List ℕ} {l : Layout} (h : Laid s l) where
+  pub nothing-of-few : l .externals .count ≤ fewRecords → Lists (modelOf s) 0 0 (replicate (2 * fewRecords + 1) 0)
+  unfolding half
+  nothing-of-few k = nothing-listed (modelOf s) (2 * fewRecords + 1) fewRecords refl (omega arith) (omega (arith, externals-counted h))
+
+  pub nothing-of-many : Lists (modelOf s) 0 0 (replicate (2 * mostExternalInputs + 1) 0)
+  unfolding half
+  nothing-of-many = nothing-listed (modelOf s) (2 * mostExternalInputs + 1) mostExternalInputs refl (omega arith) (omega (arith, externals-counted h, externals-few h))

@@ -23,6 +23,10 @@ pub record Ready (image : List ℕ) (layout : Layout) (texts blocks ks ms ns : L
   pub block-table : Tabled blockTag image blocks
   pub room : Room (slotCount (modelOf image)) ks ms ns
 
+-- so many connectors, and so many external inputs, have shorter columns
+abbrev pub fewRecords : ℕ
+fewRecords = 64
+
 -- nothing counted
 abbrev pub none : Counted
 none = record { errors = 0; warnings = 0 }

@@ -21,7 +21,12 @@ ghost use Rattle.structural.specs.Structural.{rule1, rule2, rule3, rule4};
 ghost use Rattle.degrees.specs.Columns.{Degrees};
 ghost use Rattle.externals.specs.Columns.{Listed};
 ghost use Rattle.slots.specs.Columns.{slotCount, Room};
-ghost use Rattle.rules.specs.Ran.{firstFive, Ready, Ran};
+ghost use Rattle.rules.specs.Ran.{fewRecords, firstFive, Ready, Ran};
+
+// So many connectors, and so many external inputs, have shorter columns, which are sooner cleared.
+const FEW_RECORDS: usize = 64;
+
+const FEW_EXTERNALS_COLUMN: usize = 2 * FEW_RECORDS + 1;
 
 // Rules 1 and 2.
 fn ids_and_outputs(
@@ -106,9 +111,40 @@ fn run_over<'a>(
     unify_clusters(image, layout, texts, degrees, ks, ms, ns, report, c)
 }
 
-// All rules over one report, which holds nothing yet. The columns then hold the slots as rule 6 fills
-// them.
-pub fn run<'a>(
+// All rules, where connectors and external inputs are few.
+fn run_few<'a>(
+    image: &'a [u8],
+    layout: Layout,
+    texts: &'a [usize],
+    blocks: &[usize],
+    ks: &mut [u8],
+    ms: &mut [u8],
+    ns: &mut [u64],
+    report: &mut [u8],
+) -> Counted
+    requires { ⌜ Ready (now image) layout (now texts) (now blocks) (now ks) (now ms) (now ns) × (layout .connectors .count ≤ fewRecords) × (layout .externals .count ≤ fewRecords) ⌝ }
+    ensures { λ c. ⌜ Ran (modelOf (now (image .entry))) (now (ks .exit)) (now (ms .exit)) (now (ns .exit)) (now (report .entry)) (now (report .exit)) c ⌝ }
+{
+    let mut degrees = [0u32; FEW_RECORDS];
+    let mut externals = [0u32; FEW_EXTERNALS_COLUMN];
+    in_degrees(image, layout, &mut degrees);
+    list_externals(image, layout, &mut externals);
+    run_over(
+        image,
+        layout,
+        texts,
+        blocks,
+        &degrees,
+        &externals,
+        ks,
+        ms,
+        ns,
+        report,
+    )
+}
+
+// The same for any number of them.
+fn run_many<'a>(
     image: &'a [u8],
     layout: Layout,
     texts: &'a [usize],
@@ -137,4 +173,27 @@ pub fn run<'a>(
         ns,
         report,
     )
+}
+
+// All rules over one report, which holds nothing yet. The columns then hold the slots as rule 6 fills
+// them.
+pub fn run<'a>(
+    image: &'a [u8],
+    layout: Layout,
+    texts: &'a [usize],
+    blocks: &[usize],
+    ks: &mut [u8],
+    ms: &mut [u8],
+    ns: &mut [u64],
+    report: &mut [u8],
+) -> Counted
+    requires { ⌜ Ready (now image) layout (now texts) (now blocks) (now ks) (now ms) (now ns) ⌝ }
+    ensures { λ c. ⌜ Ran (modelOf (now (image .entry))) (now (ks .exit)) (now (ms .exit)) (now (ns .exit)) (now (report .entry)) (now (report .exit)) c ⌝ }
+{
+    if layout.connectors.count <= FEW_RECORDS {
+        if layout.externals.count <= FEW_RECORDS {
+            return run_few(image, layout, texts, blocks, ks, ms, ns, report);
+        }
+    }
+    run_many(image, layout, texts, blocks, ks, ms, ns, report)
 }

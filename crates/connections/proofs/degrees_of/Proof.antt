@@ -52,9 +52,8 @@ use denote.Triple.Clauses.{ensured, lasts}
 use denote.Exit.{yes}
 use borrow.Table.Elements.{at, cut-app, join-app}
 use borrow.Rule.Array.Share.{room-take}
-use Rattle.oce_model.specs.Format.{mostConnections}
 use Rattle.oce_model.specs.declared.Connection.{Connection}
-use Rattle.connections.specs.Counted.{counted, Spare}
+use Rattle.connections.specs.Counted.{portion, counted, Spare}
 use Rattle.connections.proofs.Laws.{counted-take}
 use Rattle.oce_model.proofs.Connection as T
 use Rattle.oce_model.proofs.Connection.Laws as T′
@@ -71,7 +70,7 @@ abbrev R : RattleType
 R = T.the-row
 
 abbrev Arr : RattleType
-Arr = Array R mostConnections
+Arr = Array R portion
 
 abbrev vals : List Connection → List Val
 vals = array-vals (LL.vals T.the-type T′.the-laws)
@@ -88,7 +87,7 @@ module _ {M : Type 1} (𝓤 : URA M) (H : Heap 𝓤) (A : Atoms 𝓤) (mem′ : 
   Callee = tripleOf 𝓤 H A callee.signature (callee.spec 𝓤 H A mem′ run)
 
 module _ {M : Type 1} (𝓤 : URA M) (H : Heap 𝓤) (A : Atoms 𝓤) (W : Given 𝓤 H A) (mem′ : Memory → SProp 𝓤) (run : Routine → Fun 𝓤) (κ : Lft) (q : Share) (cs : List Connection) (n : ℕ) (b′ o′ : ℕ) (γ′ : GName) (ds : List ℕ)
-    (p : Is Arr cs (vals cs)) (gn : n < 2 ^ 64) (room′ : Room u32 (length ds)) (ok : (n ≤ mostConnections) × Spare ds n) where
+    (p : Is Arr cs (vals cs)) (gn : n < 2 ^ 64) (room′ : Room u32 (length ds)) (ok : (n ≤ portion) × Spare ds n) where
   abbrev mach : Val
   mach = arrayVal (map (λ x. T′.lowered x) cs)
 
@@ -114,14 +113,14 @@ module _ {M : Type 1} (𝓤 : URA M) (H : Heap 𝓤) (A : Atoms 𝓤) (W : Given
   abbrev Post : Val → SProp 𝓤
   Post = walkOf 𝓤 H A degrees-of.ended stayed (degrees-of.clauses 𝓤 H A mem′ run) .post (((κ, tt), (q, tt), tt, x, here), tt)
 
-  len : length cs ≡ mostConnections
+  len : length cs ≡ portion
   len = p .1 .0 .1
 
   short : length part ≡ n
   short = length-take-le n cs (subst (λ (m : ℕ). n ≤ m) (sym len) (ok .0))
 
   room : Room R (length part)
-  room = room-take R mostConnections n cs len (lit< tt, lit< tt)
+  room = room-take R portion n cs len (lit< tt, lit< tt)
 
   spare : Spare ds (length part)
   spare = subst (Spare ds) (sym short) (ok .1)
@@ -131,7 +130,7 @@ module _ {M : Type 1} (𝓤 : URA M) (H : Heap 𝓤) (A : Atoms 𝓤) (W : Given
       qed W ((‵ (flft κ q) ⊛ ‵ ftrue) ∷ ‵ (finally u32 γ′ zs) ∷ []) ∵
       suffices ! _ (ends-at 𝓤 H A degrees-of.ended stayed (degrees-of.clauses 𝓤 H A mem′ run) W (((κ, tt), (q, tt), tt, x, here), tt) vunit tt (tt, (tt, (zs, tt))) (tt, (tt, (l, tt)))) $ says ! (e ∙ ap (counted ds part) short ∙ counted-take ds cs n) $
       move ! (1 ∷ []) $ nothing ! $ move ! (1 ∷ 0 ∷ []) $ fjoin ! $ owned ! usize (Is usize) (uint-makes 𝓤 H A W w64) n (vint w64 n ∷ []) (refl, gn) $ fjoin ! $
-      owned ! Arr (Is Arr) (array-makes 𝓤 H A W R ((LL.makes T.the-type T′.the-plain) 𝓤 H A) mostConnections) cs (vals cs) p $ fjoin ! $ move ! (1 ∷ 0 ∷ []) $ frame ! $ frame ! $
+      owned ! Arr (Is Arr) (array-makes 𝓤 H A W R ((LL.makes T.the-type T′.the-plain) 𝓤 H A) portion) cs (vals cs) p $ fjoin ! $ move ! (1 ∷ 0 ∷ []) $ frame ! $ frame ! $
       feqI ! (List Val) (vunit ∷ []) (vunit ∷ []) refl $ done !
 
   module _ (α l : ℕ) (γ : GName) where
@@ -163,9 +162,9 @@ module _ {M : Type 1} (𝓤 : URA M) (H : Heap 𝓤) (A : Atoms 𝓤) (W : Given
         assigns ! (addr ! (from ! (fld ! refl (hop ! (look-in ! 12 (sub ! 0 refl (whole !))) (stop !))))) (from ! (stop !)) (init ! 2 refl (tt, tt)) $
         assigns ! (agg ! (and-then ! (load ! (from ! (stop !)) (look ! 2 refl)) (and-then ! (load ! (from ! (fld ! refl (stop !))) (look-in ! 12 (sub ! 1 refl (whole !)))) (no-more !)))) (from ! (stop !)) (init ! 0 refl (tt, (tt, (record { fits = room′ .0 }, tt)))) $
         -- the array in memory is its elements, and the first n of them are lent
-        move ! (10 ∷ []) $ use1 W (‵ (cellAt fullShare (Arr .mir) (mach ∷ []) l₄ 0)) (W .laws .at-raw fullShare (lone (Arr .mir)) l₄ 0 mach) $ owned ! Arr (Is Arr) (array-makes 𝓤 H A W R ((LL.makes T.the-type T′.the-plain) 𝓤 H A) mostConnections) cs (mach ∷ []) p $ move ! (1 ∷ 0 ∷ []) $ fjoin ! $
+        move ! (10 ∷ []) $ use1 W (‵ (cellAt fullShare (Arr .mir) (mach ∷ []) l₄ 0)) (W .laws .at-raw fullShare (lone (Arr .mir)) l₄ 0 mach) $ owned ! Arr (Is Arr) (array-makes 𝓤 H A W R ((LL.makes T.the-type T′.the-plain) 𝓤 H A) portion) cs (mach ∷ []) p $ move ! (1 ∷ 0 ∷ []) $ fjoin ! $
         fpack ! (List Val) (λ vs. fsep (cellAt fullShare (Arr .mir) vs l₄ 0) (Arr .own cs vs)) (mach ∷ []) $
-        use1 W (‵ (arr-parts (shares R) mostConnections .part fullShare cs l₄ 0)) (array-apart 𝓤 H A W R fullShare tt mostConnections cs l₄ 0) $ fsplit ! $ drop ! $
+        use1 W (‵ (arr-parts (shares R) portion .part fullShare cs l₄ 0)) (array-apart 𝓤 H A W R fullShare tt portion cs l₄ 0) $ fsplit ! $ drop ! $
         use1 W (‵ (cells (mem R) cs l₄ 0)) (whole-in 𝓤 H A W R cs l₄ 0) $ rewrite ! 0 (λ (ys : List Connection). ‵ (cells (mem R) ys l₄ 0)) (sym (take-append-drop n cs)) refl $
         use1 W (‵ (cells (mem R) part l₄ 0) ⊛ ‵ (cells (mem R) (drop-list n cs) l₄ (at 0 (mem R .size) (length part)))) (cut-app 𝓤 H A (mem R) part (drop-list n cs) l₄ 0) $ split ! $
         use1 W (‵ (row R fullShare part l₄ 0)) (whole-out 𝓤 H A W R part l₄ 0) $ feqI ! ℕ (length part) (length part) refl $ fjoin ! $
@@ -188,9 +187,9 @@ module _ {M : Type 1} (𝓤 : URA M) (H : Heap 𝓤) (A : Atoms 𝓤) (W : Given
         move ! (1 ∷ []) $ split ! $ lft-end ! tt $ move ! (0 ∷ 5 ∷ []) $ lent-back ! tt $ fsplit ! $ drop ! $
         use1 W (‵ (cells (mem R) part l₄ 0)) (whole-in 𝓤 H A W R part l₄ 0) $ move ! (0 ∷ 5 ∷ []) $
         use2 W (‵ (cells (mem R) (part ++ drop-list n cs) l₄ 0)) (join-app 𝓤 H A (mem R) part (drop-list n cs) l₄ 0) $ rewrite ! 0 (λ (ys : List Connection). ‵ (cells (mem R) ys l₄ 0)) (take-append-drop n cs) refl $
-        use1 W (‵ (row R fullShare cs l₄ 0)) (whole-out 𝓤 H A W R cs l₄ 0) $ feqI ! ℕ (length cs) mostConnections len $ fjoin ! $
-        use1 W (‵ (partAt Arr fullShare cs l₄ 0)) (array-whole 𝓤 H A W R fullShare mostConnections cs l₄ 0) $ fpick ! (λ vs. fsplit ! $
-        spelt ! Arr (Is Arr) (shows 𝓤 H A Arr) vals (array-tells R (LL.vals T.the-type T′.the-laws) (LL.tells T.the-type T′.the-laws) mostConnections) fullShare cs vs l₄ 0 $ use1 W (‵ (fat fullShare (lone (Arr .mir)) l₄ 0 mach)) (W .laws .raw-at fullShare (lone (Arr .mir)) l₄ 0 mach) $ forget ! 0 refl $
+        use1 W (‵ (row R fullShare cs l₄ 0)) (whole-out 𝓤 H A W R cs l₄ 0) $ feqI ! ℕ (length cs) portion len $ fjoin ! $
+        use1 W (‵ (partAt Arr fullShare cs l₄ 0)) (array-whole 𝓤 H A W R fullShare portion cs l₄ 0) $ fpick ! (λ vs. fsplit ! $
+        spelt ! Arr (Is Arr) (shows 𝓤 H A Arr) vals (array-tells R (LL.vals T.the-type T′.the-laws) (LL.tells T.the-type T′.the-laws) portion) fullShare cs vs l₄ 0 $ use1 W (‵ (fat fullShare (lone (Arr .mir)) l₄ 0 mach)) (W .laws .raw-at fullShare (lone (Arr .mir)) l₄ 0 mach) $ forget ! 0 refl $
         -- [room for _4; what the array owns; the token; the result; the last list; true; _9; …; _8; …; _7; …; _6; …; _5; …; that _4 dies; _3; …; _2; …; _1; …; _0; …]
         assigns ! (of-opd ! (unit-lit !)) (from ! (stop !)) (init ! 23 refl (tt, tt)) $
         returns ! (look ! 23 refl) $ forget ! 6 refl $ forget ! 8 refl $ forget ! 10 refl $ forget ! 12 refl $ forget ! 14 refl $ forget ! 17 refl $ forget ! 19 refl $ forget ! 21 refl $ forget ! 23 refl $
@@ -199,14 +198,14 @@ module _ {M : Type 1} (𝓤 : URA M) (H : Heap 𝓤) (A : Atoms 𝓤) (W : Given
         keep ! (1 ∷ 3 ∷ []) $ by ! (exits (zs .1 .0) e l))))))))))))))))))))
       where
         typed : Holds (hasTy (lone (Arr .mir)) mach) × WT mach
-        typed = array-lawful 𝓤 H A W R (LL.lawful T.the-type T′.the-laws 𝓤 H A W) mostConnections .typed cs (mach ∷ []) p .0
+        typed = array-lawful 𝓤 H A W R (LL.lawful T.the-type T′.the-laws 𝓤 H A W) portion .typed cs (mach ∷ []) p .0
 
 module _ {M : Type 1} (𝓤 : URA M) (H : Heap 𝓤) (A : Atoms 𝓤) (W : Given 𝓤 H A) (mem′ : Memory → SProp 𝓤) (run : Routine → Fun 𝓤) where
   degrees-of-walks : (C : Calls 𝓤 H) (Λ : Loops 𝓤 H) → FmC 𝓤 H (W .laws) C → Triple 𝓤 (C #connections·in-degrees) (Callee 𝓤 H A mem′ run)
       → Walks 𝓤 H A degrees-of.ended stayed (WpFn 𝓤 H C Λ code.function) (degrees-of.clauses 𝓤 H A mem′ run)
   degrees-of-walks C Λ fm known = walked 𝓤 H A degrees-of.ended stayed (degrees-of.clauses 𝓤 H A mem′ run) (WpFn 𝓤 H C Λ code.function)
-      (λ κs. (vals, (uint-vals w64, (slice-vals, tt)))) (λ κs. (array-tells R (LL.vals T.the-type T′.the-laws) (LL.tells T.the-type T′.the-laws) mostConnections, (uint-tells w64, (mut-slice-tells (named 0) (κs .0) u32, tt))))
-      (λ κs qs bounds a g are. needs 𝓤 ((a .1 .0 ≤ mostConnections) × Spare (a .1 .1 .0 .now) (a .1 .0)) _ (λ ok.
+      (λ κs. (vals, (uint-vals w64, (slice-vals, tt)))) (λ κs. (array-tells R (LL.vals T.the-type T′.the-laws) (LL.tells T.the-type T′.the-laws) portion, (uint-tells w64, (mut-slice-tells (named 0) (κs .0) u32, tt))))
+      (λ κs qs bounds a g are. needs 𝓤 ((a .1 .0 ≤ portion) × Spare (a .1 .1 .0 .now) (a .1 .0)) _ (λ ok.
       walk 𝓤 H A W mem′ run (κs .0) (qs .0) (a .0) (a .1 .0) (a .1 .1 .0 .ptr .0) (a .1 .1 .0 .ptr .1) (a .1 .1 .0 .name) (a .1 .1 .0 .now) (are .0) (are .1 .0 .1) (are .1 .1 .0 .0 .1) ok C Λ fm known))
 
 degrees-of-meets : {M : Type 1} (𝓤 : URA M) (H : Heap 𝓤) (A : Atoms 𝓤) (W : Given 𝓤 H A) (mem′ : Memory → SProp 𝓤) (run : Routine → Fun 𝓤) (𝓣 : Tables 𝓤 H)

@@ -1,20 +1,20 @@
 -- `degrees::read_connections` meets its contract.
 -- Assumes nothing.
 use borrow.Author.Needs.{needs}
-use Prim.Native.Nat.{_≤_, _-_}
-use Rattle.oce_model.specs.Format.{mostConnections}
+use Prim.Native.Nat.{_<_, _≤_, _-_}
+use native.Mathlib.Omega.{arith}
 use Rattle.oce_model.specs.Model.{modelOf}
-use Rattle.records.proofs.Laws.{connections-few}
+use Rattle.connections.specs.Counted.{portion}
 use Rattle.degrees.specs.Columns.{Reads}
 use Rattle.degrees.proofs.Laws.{reads-start, reads-room, reads-more, reads-end}
 use Rattle.degrees.proofs.read_connections.Statement.{statement}
 use Rattle.degrees.proofs.read_connections.Tie as tie
 
 abbrev Inv-loop : tie.InvT-loop
-Inv-loop image layout connections list₀ k₀ list k = Reads (modelOf image) k list × (k ≤ layout .connections .count) × (layout .connections .count ≤ mostConnections)
+Inv-loop image layout first n list₀ k₀ list k = Reads (modelOf image) first k list × (k ≤ n)
 
 abbrev μ-loop : tie.MeasureT-loop
-μ-loop image layout connections list₀ k₀ list k = layout .connections .count - k
+μ-loop image layout first n list₀ k₀ list k = n - k
 
 pub read-connections-spec : {M : Type 1} → statement M
 read-connections-spec =
@@ -22,11 +22,12 @@ read-connections-spec =
     (tie.spec
     Inv-loop
     μ-loop
-    (λ c. search (reads-start, connections-few, needs))
+    (λ c. search (reads-start, needs))
+    (λ c. search needs)
     (λ c κs. search needs)
     (λ c. search needs)
     (λ c. search (reads-room, needs))
     (λ c. search needs)
     (λ c. search needs)
-    (λ c. search (reads-more, needs))
+    (λ c. let room : c .before .before .loop .k < portion = omega arith in search (reads-more, needs))
     (λ c. search (reads-end, needs)))

@@ -9,11 +9,12 @@ pub is-external-spec : {M : Type 1} → statement M
 is-external-spec =
     tie.close
     (tie.spec
+    (λ c κs. search needs)
     (λ c. search needs)
     (λ c. search needs)
     (λ c. search (entry-tells, needs))
-    (λ c. search needs)
     (λ c κs. search needs)
+    (λ c. search needs)
     (λ c. search needs)
     (λ c. search needs)
     (λ c. search needs)

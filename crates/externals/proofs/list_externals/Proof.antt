@@ -6,7 +6,7 @@ use mathlib.Core.Path.{_≡_}
 use lib.ListN.{length}
 use Rattle.oce_model.specs.Model.{modelOf}
 use Rattle.externals.specs.Columns.{Lists}
-use Rattle.externals.proofs.Laws.{others-room, others-few, lists-all}
+use Rattle.externals.proofs.Laws.{others-room, others-fit, others-few, lists-all}
 use Rattle.externals.proofs.list_externals.Statement.{statement}
 use Rattle.externals.proofs.list_externals.Tie as tie
 
@@ -27,6 +27,6 @@ list-externals-spec =
     (λ c. search needs)
     (λ c. search needs)
     (λ c. search needs)
-    (λ c κs. search (others-few, needs))
+    (λ c κs. search (others-fit, others-few, needs))
     (λ c. search needs)
     (λ c. search (lists-all, needs)))

@@ -10,6 +10,7 @@ list-one-spec =
     tie.close
     (tie.spec
     (λ c κs. search needs)
+    (λ c κs. search needs)
     (λ c. search needs)
     (λ c. search needs)
     (λ c. search needs)
