@@ -18,7 +18,7 @@ use Rattle.numbers.specs.Bytes.{le64}
 use Rattle.oce_model.specs.Model.{Model, text}
 use Rattle.crossed_bounds.specs.CrossedBounds.{memberIri, memberExternal, memberKey}
 use Rattle.members.specs.Members.{memberJoins, Continued}
-use Rattle.crossed_buckets.specs.Buckets.{bucketCount, bucketOf, empty, severalInner, oneInner, oneExternal, crowded, noted, memberBucket, afterMember, known, isCrowded, crowdedOf, Noted}
+use Rattle.crossed_buckets.specs.Buckets.{bucketCount, bucketOf, empty, severalInner, oneInner, oneExternal, crowded, noted, memberBucket, afterMember, known, isCrowded, crowdedBelow, crowdedMembers, Noted}
 
 -- ---- one member
 
@@ -129,16 +129,16 @@ pub record Collects (m : Model) (count : ℕ) (xs₀ xs : List ℕ) (n x : ℕ) 
   pub within : x ≤ count
   pub few : n ≤ x
   pub long : length xs ≡ length xs₀
-  pub front : take n xs ≡ crowdedOf m count x
+  pub front : take n xs ≡ crowdedBelow m count x
 
 module _ {m : Model} {count : ℕ} {xs₀ : List ℕ} where
   pub collects-start : Collects m count xs₀ xs₀ 0 0
-  unfolding crowdedOf each
+  unfolding crowdedBelow each
   collects-start = record { within = omega arith; few = omega arith; long = refl; front = refl }
 
   pub collects-turn : {xs xs′ : List ℕ} {n r x : ℕ} → Collects m count xs₀ xs n x → Continued n (only (isCrowded m count x) x) xs xs′ r → x < count → length xs′ ≡ length xs
       → Collects m count xs₀ xs′ r (x + 1)
-  unfolding crowdedOf
+  unfolding crowdedBelow
   collects-turn {x = x} v c h l = record {
     within = omega arith;
     few = omega (arith, v .few, c .few);
@@ -146,5 +146,5 @@ module _ {m : Model} {count : ℕ} {xs₀ : List ℕ} where
     front = c .front ∙ rw (v .front) (sym (each-next x (λ y. only (isCrowded m count y) y)));
   }
 
-  pub collects-all : {xs : List ℕ} {n x : ℕ} → Collects m count xs₀ xs n x → count ≤ x → take n xs ≡ crowdedOf m count count
-  collects-all {xs} {n} {x} v h = let e : x ≡ count = omega (arith, v .within) in v .front ∙ ap (crowdedOf m count) e
+  pub collects-all : {xs : List ℕ} {n x : ℕ} → Collects m count xs₀ xs n x → count ≤ x → take n xs ≡ crowdedMembers m count
+  collects-all {xs} {n} {x} v h = let e : x ≡ count = omega (arith, v .within) in v .front ∙ ap (crowdedBelow m count) e

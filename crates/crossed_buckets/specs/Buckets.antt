@@ -58,9 +58,13 @@ module _ (m : Model) where
   unfoldable pub isCrowded : ℕ → ℕ → Bool
   isCrowded n x = memberJoins m x && eqb (known n (memberBucket x)) crowded
 
-  -- those of the first i members; beside `joining`
-  unfoldable pub crowdedOf : ℕ → ℕ → List ℕ
-  crowdedOf n i = each i (λ x. only (isCrowded n x) x)
+  -- those of the first i members
+  unfoldable pub crowdedBelow : ℕ → ℕ → List ℕ
+  crowdedBelow n i = each i (λ x. only (isCrowded n x) x)
+
+  -- of the first n members those of crowded buckets
+  abbrev pub crowdedMembers : ℕ → List ℕ
+  crowdedMembers n = crowdedBelow n n
 
 -- the column has what is known of each bucket after the first n members
 pub record Noted (m : Model) (n : ℕ) (column : List ℕ) : Type 0 where

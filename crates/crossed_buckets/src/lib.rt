@@ -16,7 +16,7 @@ ghost use Rattle.oce_model.specs.Model.{modelOf};
 ghost use Rattle.accept.specs.Layout.{Laid, Tabled};
 ghost use Rattle.externals.specs.Columns.{Listed};
 ghost use Rattle.members.specs.Members.{memberCount, isMember, Continued};
-ghost use Rattle.crossed_buckets.specs.Buckets.{bucketCount, bucketOf, memberBucket, noted, isCrowded, crowdedOf, Noted};
+ghost use Rattle.crossed_buckets.specs.Buckets.{bucketCount, bucketOf, memberBucket, noted, isCrowded, crowdedMembers, Noted};
 
 // How many buckets there are: a prime, so that each of the eight bytes tells.
 const BUCKETS: usize = 1021;
@@ -152,7 +152,7 @@ fn collect_known<'a>(
     records: &mut [usize],
 ) -> usize
     requires { ⌜ Laid (now image) layout × Tabled textTag (now image) (now texts) × Noted (modelOf (now image)) count (now known) × (count ≤ memberCount layout) × (count ≤ length (now records)) ⌝ }
-    ensures { λ r. ⌜ (take r (now (records .exit)) ≡ crowdedOf (modelOf (now (image .entry))) count count) × (r ≤ count) ⌝ }
+    ensures { λ r. ⌜ (take r (now (records .exit)) ≡ crowdedMembers (modelOf (now (image .entry))) count) × (r ≤ count) ⌝ }
 {
     let mut n = 0;
     let mut x = 0;
@@ -174,7 +174,7 @@ pub fn collect_crowded<'a>(
     records: &mut [usize],
 ) -> usize
     requires { ⌜ Laid (now image) layout × Tabled textTag (now image) (now texts) × Listed (modelOf (now image)) (now externals) × (count ≤ memberCount layout) × (count ≤ length (now records)) ⌝ }
-    ensures { λ r. ⌜ (take r (now (records .exit)) ≡ crowdedOf (modelOf (now (image .entry))) count count) × (r ≤ count) ⌝ }
+    ensures { λ r. ⌜ (take r (now (records .exit)) ≡ crowdedMembers (modelOf (now (image .entry))) count) × (r ≤ count) ⌝ }
 {
     let mut known = [EMPTY; BUCKETS];
     note_all(image, layout, texts, externals, count, &mut known);
