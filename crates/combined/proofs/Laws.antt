@@ -30,9 +30,12 @@ use Rattle.sorting.proofs.Laws.{sorted-length}
 use Rattle.crossed_bounds.specs.Ranges.{crossed, uncrossed, takeIn}
 use Rattle.crossed_bounds.specs.CrossedBounds.{memberIri, memberExternal, memberKey, groups, groupsFaults}
 use Rattle.crossed_bounds.specs.declared.Range.{Range}
-use Rattle.members.specs.Members.{memberCount, memberRange, memberJoins, joining}
+use Rattle.members.specs.Members.{memberCount, memberRange}
+use Rattle.crossed_buckets.specs.Buckets.{isCrowded, crowdedBelow, crowdedMembers}
 use Rattle.combined.specs.Runs.{runs}
 use Rattle.combined.proofs.Whole.{sorted-faults, quiet}
+use Rattle.combined.proofs.Crowded.{crowded-faults}
+use Rattle.combined.proofs.Reporting.{no-runs}
 use Rattle.combined.specs.Pass.{opened, grown, counts, passFaults, sameKey, Below, AllMembers, Stepped}
 use Rattle.combined.specs.declared.Pass.{Pass}
 
@@ -130,10 +133,10 @@ module _ (key : ℕ → List ℕ) (xs : List ℕ) {ys : List ℕ} (e : ys ≡ so
   pub length-sorted : length ys ≡ length xs
   length-sorted = rw e (sorted-length key xs)
 
-pub joining-below : (m : Model) (n k : ℕ) → k ≤ n → Below n (joining m k)
-unfolding joining each
-joining-below m n zero h = tt
-joining-below m n (suc k) h = below-append n (joining m k) (only (memberJoins m k) k) (joining-below m n k (omega arith)) (below-only n (memberJoins m k) k h)
+crowded-below : (m : Model) (n k : ℕ) → k ≤ n → Below n (crowdedBelow m n k)
+unfolding crowdedBelow each
+crowded-below m n zero h = tt
+crowded-below m n (suc k) h = below-append n (crowdedBelow m n k) (only (isCrowded m n k) k) (crowded-below m n k (omega arith)) (below-only n (isCrowded m n k) k h)
 
 pub member-at : {n : ℕ} {xs : List ℕ} → AllMembers n xs → (i : ℕ) → i < length xs → getD xs i 0 < n
 member-at a i h = a .at i h
@@ -181,19 +184,22 @@ module _ {s : List ℕ} {l : Layout} (h : Laid s l) where
   counted = omega (arith, connectors-counted h, inputs-counted h)
 
   -- what was collected
-  module _ {xs : List ℕ} (e : xs ≡ joining (modelOf s) (memberCount l)) where
+  module _ {xs : List ℕ} (e : xs ≡ crowdedMembers (modelOf s) (memberCount l)) where
     pub collected-below : Below (memberCount l) xs
-    collected-below = rw e (joining-below (modelOf s) (memberCount l) (memberCount l) (omega arith))
+    collected-below = rw e (crowded-below (modelOf s) (memberCount l) (memberCount l) (omega arith))
 
     pub collected-faults : {b b′ : List ℕ} {c r : Counted} → Put b c (groupsFaults (modelOf s) (runs (memberKey (modelOf s)) (sorted (memberKey (modelOf s)) xs))) b′ r
         → Put b c (groupsFaults (modelOf s) (groups (modelOf s))) b′ r
-    collected-faults p = rw (e, sorted-faults (modelOf s) counted) at p
+    collected-faults p = rw (e, crowded-faults (modelOf s) (memberCount l), sorted-faults (modelOf s) counted) at p
+
+    pub collected-none : {b : List ℕ} {c : Counted} → length xs ≡ 0 → Put b c (groupsFaults (modelOf s) (groups (modelOf s))) b c
+    collected-none {b} {c} n = collected-faults (no-runs (modelOf s) (sorted (memberKey (modelOf s)) xs) b c (sorted-length (memberKey (modelOf s)) xs ∙ n))
 
   pub quiet-put : {b : List ℕ} {c : Counted} {t : Bool} → t ≡ below (l .connectors .count) (memberExternal (modelOf s)) → t ≡ false → Put b c (groupsFaults (modelOf s) (groups (modelOf s))) b c
   quiet-put e f = rw (quiet (modelOf s) (ap (λ n. below n (memberExternal (modelOf s))) (sym (connectors-counted h)) ∙ sym e ∙ f)) put-none
 
 -- the front of a column, as the code cuts it: `xs[0..k]` has `k - 0` elements
-pub front-collected : (m : Model) (xs : List ℕ) (k : ℕ) {n l : ℕ} → take k xs ≡ joining m n → n ≡ l → take (k - 0) xs ≡ joining m l
+pub front-collected : (m : Model) (xs : List ℕ) (k : ℕ) {n l : ℕ} → take k xs ≡ crowdedMembers m n → n ≡ l → take (k - 0) xs ≡ crowdedMembers m l
 front-collected m xs k e f = let z : k - 0 ≡ k = omega arith in rw (z, e, f)
 
 pub front-few : (xs : List ℕ) {k n l : ℕ} → k ≤ n → n ≡ l → length (take (k - 0) xs) ≤ l

@@ -2,5 +2,6 @@
 pub mod Runs
 pub mod Existing
 pub mod Whole
+pub mod Crowded
 pub mod Laws
 pub mod Reporting

@@ -17,7 +17,7 @@ use Rattle.combined.specs.Runs.{runs}
 use Rattle.combined.proofs.Runs.{runs-sorted}
 use Rattle.combined.proofs.Existing.{AllIdle, enterAll-ascending, extended-faults, none-external}
 
-enterAll-append : (key : ℕ → List ℕ) (gs : List Group) (xs ys : List ℕ) → enterAll key gs (xs ++ ys) ≡ enterAll key (enterAll key gs xs) ys
+pub enterAll-append : (key : ℕ → List ℕ) (gs : List Group) (xs ys : List ℕ) → enterAll key gs (xs ++ ys) ≡ enterAll key (enterAll key gs xs) ys
 unfolding enterAll
 enterAll-append key gs [] ys = refl
 enterAll-append key gs (x ∷ xs) ys = enterAll-append key (enter key x gs) xs ys

@@ -21,6 +21,10 @@ use Rattle.crossed_bounds.specs.declared.Range.{Range}
 use Rattle.members.specs.Members.{memberRange}
 use Rattle.combined.specs.declared.Pass.{Pass}
 
+-- so many members have shorter arrays
+abbrev pub fewMembers : ℕ
+fewMembers = 96
+
 -- a group is opened by member x, which is external or not and has range r
 unfoldable pub opened : Counted → ℕ → Bool → Range → Pass
 opened c x e r = record { counted = c; first = x; members = 1; external = e; kept = uncrossed r }

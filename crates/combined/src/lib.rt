@@ -1,12 +1,12 @@
 // Rule 5.4: the combined domains of boundary inputs, `check_combined_input_domains`. The members that take
-// part are sorted by the bytes of their iris; a group is a run of neighbours with equal bytes. One pass
-// keeps of the open group what a diagnostic needs.
+// part, and whose bucket is crowded, are sorted by the bytes of their iris; a group is a run of neighbours
+// with equal bytes. One pass keeps of the open group what a diagnostic needs.
 use accept::Layout;
 use bounds::is_crossed;
 use bounds::take_in;
 use bounds::uncrossed;
 use crossed_bounds::Range;
-use members::collect;
+use crossed_buckets::collect_crowded;
 use members::list_iris;
 use members::member_external;
 use members::member_iri;
@@ -33,13 +33,17 @@ ghost use Rattle.accept.specs.Layout.{Laid, Tabled};
 ghost use Rattle.externals.specs.Columns.{Listed};
 ghost use Rattle.sorting.specs.Sort.{sorted};
 ghost use Rattle.crossed_bounds.specs.CrossedBounds.{memberIri, memberKey, groups, groupsFaults};
-ghost use Rattle.members.specs.Members.{memberCount, isMember, joining};
+ghost use Rattle.members.specs.Members.{memberCount, isMember};
+ghost use Rattle.crossed_buckets.specs.Buckets.{crowdedMembers};
 ghost use Rattle.combined.specs.Runs.{runs};
-ghost use Rattle.combined.specs.Pass.{opened, grown, counts, passFaults, sameKey, AllMembers, Below, Small, Stepped};
+ghost use Rattle.combined.specs.Pass.{fewMembers, opened, grown, counts, passFaults, sameKey, AllMembers, Below, Small, Stepped};
 
 // The most members that an image has: those of the table's last column, of connectors and of boundary
 // inputs.
 const MOST_MEMBERS: usize = MOST_CONNECTORS + MOST_BOUNDARY_INPUTS;
+
+// So many have shorter arrays, which are sooner cleared.
+const FEW_MEMBERS: usize = 96;
 
 // The open group: what was counted before it, its first member, how many it has, whether one is external,
 // and what their ranges leave.
@@ -230,7 +234,7 @@ fn report_listed<'a>(
     report: &mut [u8],
     counted: Counted,
 ) -> Counted
-    requires { ⌜ Laid (now image) layout × Tabled textTag (now image) (now texts) × Listed (modelOf (now image)) (now externals) × (length (now iri) ≡ memberCount layout) × (now records ≡ joining (modelOf (now image)) (memberCount layout)) × (length (now records) ≤ memberCount layout) × (length (now records) ≤ length (now scratch)) × (total counted ≤ 1000000) ⌝ }
+    requires { ⌜ Laid (now image) layout × Tabled textTag (now image) (now texts) × Listed (modelOf (now image)) (now externals) × (length (now iri) ≡ memberCount layout) × (now records ≡ crowdedMembers (modelOf (now image)) (memberCount layout)) × (length (now records) ≤ memberCount layout) × (length (now records) ≤ length (now scratch)) × (total counted ≤ 1000000) ⌝ }
     ensures { λ r. ⌜ Put (now (report .entry)) counted (groupsFaults (modelOf (now (image .entry))) (groups (modelOf (now (image .entry))))) (now (report .exit)) r × (total r ≤ total counted + memberCount layout) ⌝ }
 {
     list_iris(image, layout, iri);
@@ -247,8 +251,8 @@ fn report_listed<'a>(
     )
 }
 
-// The same, with a column for the iris and one to sort in.
-fn report_collected<'a>(
+// The same, with a column for the iris and one to sort in, where members are few.
+fn few_collected<'a>(
     image: &'a [u8],
     layout: Layout,
     texts: &'a [usize],
@@ -257,7 +261,65 @@ fn report_collected<'a>(
     report: &mut [u8],
     counted: Counted,
 ) -> Counted
-    requires { ⌜ Laid (now image) layout × Tabled textTag (now image) (now texts) × Listed (modelOf (now image)) (now externals) × (now records ≡ joining (modelOf (now image)) (memberCount layout)) × (length (now records) ≤ memberCount layout) × (total counted ≤ 1000000) ⌝ }
+    requires { ⌜ Laid (now image) layout × Tabled textTag (now image) (now texts) × Listed (modelOf (now image)) (now externals) × (now records ≡ crowdedMembers (modelOf (now image)) (memberCount layout)) × (length (now records) ≤ memberCount layout) × (total counted ≤ 1000000) × (memberCount layout ≤ fewMembers) ⌝ }
+    ensures { λ r. ⌜ Put (now (report .entry)) counted (groupsFaults (modelOf (now (image .entry))) (groups (modelOf (now (image .entry))))) (now (report .exit)) r × (total r ≤ total counted + memberCount layout) ⌝ }
+{
+    let mut iri = [0u16; FEW_MEMBERS];
+    let mut scratch = [0usize; FEW_MEMBERS];
+    let n = member_count(image, layout);
+    report_listed(
+        image,
+        layout,
+        texts,
+        externals,
+        &mut iri[0..n],
+        records,
+        &mut scratch,
+        report,
+        counted,
+    )
+}
+
+// Where those to sort are few.
+fn some_collected<'a>(
+    image: &'a [u8],
+    layout: Layout,
+    texts: &'a [usize],
+    externals: &'a [u32],
+    records: &mut [usize],
+    report: &mut [u8],
+    counted: Counted,
+) -> Counted
+    requires { ⌜ Laid (now image) layout × Tabled textTag (now image) (now texts) × Listed (modelOf (now image)) (now externals) × (now records ≡ crowdedMembers (modelOf (now image)) (memberCount layout)) × (length (now records) ≤ memberCount layout) × (total counted ≤ 1000000) × (length (now records) ≤ fewMembers) ⌝ }
+    ensures { λ r. ⌜ Put (now (report .entry)) counted (groupsFaults (modelOf (now (image .entry))) (groups (modelOf (now (image .entry))))) (now (report .exit)) r × (total r ≤ total counted + memberCount layout) ⌝ }
+{
+    let mut iri = [0u16; MOST_MEMBERS];
+    let mut scratch = [0usize; FEW_MEMBERS];
+    let n = member_count(image, layout);
+    report_listed(
+        image,
+        layout,
+        texts,
+        externals,
+        &mut iri[0..n],
+        records,
+        &mut scratch,
+        report,
+        counted,
+    )
+}
+
+// For any number of them.
+fn many_collected<'a>(
+    image: &'a [u8],
+    layout: Layout,
+    texts: &'a [usize],
+    externals: &'a [u32],
+    records: &mut [usize],
+    report: &mut [u8],
+    counted: Counted,
+) -> Counted
+    requires { ⌜ Laid (now image) layout × Tabled textTag (now image) (now texts) × Listed (modelOf (now image)) (now externals) × (now records ≡ crowdedMembers (modelOf (now image)) (memberCount layout)) × (length (now records) ≤ memberCount layout) × (total counted ≤ 1000000) ⌝ }
     ensures { λ r. ⌜ Put (now (report .entry)) counted (groupsFaults (modelOf (now (image .entry))) (groups (modelOf (now (image .entry))))) (now (report .exit)) r × (total r ≤ total counted + memberCount layout) ⌝ }
 {
     let mut iri = [0u16; MOST_MEMBERS];
@@ -271,6 +333,83 @@ fn report_collected<'a>(
         &mut iri[0..n],
         records,
         &mut scratch,
+        report,
+        counted,
+    )
+}
+
+// Where none is to be sorted there is nothing to report.
+fn report_collected<'a>(
+    image: &'a [u8],
+    layout: Layout,
+    texts: &'a [usize],
+    externals: &'a [u32],
+    records: &mut [usize],
+    report: &mut [u8],
+    counted: Counted,
+) -> Counted
+    requires { ⌜ Laid (now image) layout × Tabled textTag (now image) (now texts) × Listed (modelOf (now image)) (now externals) × (now records ≡ crowdedMembers (modelOf (now image)) (memberCount layout)) × (length (now records) ≤ memberCount layout) × (total counted ≤ 1000000) ⌝ }
+    ensures { λ r. ⌜ Put (now (report .entry)) counted (groupsFaults (modelOf (now (image .entry))) (groups (modelOf (now (image .entry))))) (now (report .exit)) r × (total r ≤ total counted + memberCount layout) ⌝ }
+{
+    if records.len() == 0 {
+        return counted;
+    }
+    if member_count(image, layout) <= FEW_MEMBERS {
+        return few_collected(image, layout, texts, externals, records, report, counted);
+    }
+    if records.len() <= FEW_MEMBERS {
+        return some_collected(image, layout, texts, externals, records, report, counted);
+    }
+    many_collected(image, layout, texts, externals, records, report, counted)
+}
+
+// The members of crowded buckets, and their groups, where members are few.
+fn few_domains<'a>(
+    image: &'a [u8],
+    layout: Layout,
+    texts: &'a [usize],
+    externals: &'a [u32],
+    report: &mut [u8],
+    counted: Counted,
+) -> Counted
+    requires { ⌜ Laid (now image) layout × Tabled textTag (now image) (now texts) × Listed (modelOf (now image)) (now externals) × (total counted ≤ 1000000) × (memberCount layout ≤ fewMembers) ⌝ }
+    ensures { λ r. ⌜ Put (now (report .entry)) counted (groupsFaults (modelOf (now (image .entry))) (groups (modelOf (now (image .entry))))) (now (report .exit)) r × (total r ≤ total counted + memberCount layout) ⌝ }
+{
+    let mut records = [0usize; FEW_MEMBERS];
+    let n = member_count(image, layout);
+    let k = collect_crowded(image, layout, texts, externals, n, &mut records);
+    report_collected(
+        image,
+        layout,
+        texts,
+        externals,
+        &mut records[0..k],
+        report,
+        counted,
+    )
+}
+
+// For any number of them.
+fn many_domains<'a>(
+    image: &'a [u8],
+    layout: Layout,
+    texts: &'a [usize],
+    externals: &'a [u32],
+    report: &mut [u8],
+    counted: Counted,
+) -> Counted
+    requires { ⌜ Laid (now image) layout × Tabled textTag (now image) (now texts) × Listed (modelOf (now image)) (now externals) × (total counted ≤ 1000000) ⌝ }
+    ensures { λ r. ⌜ Put (now (report .entry)) counted (groupsFaults (modelOf (now (image .entry))) (groups (modelOf (now (image .entry))))) (now (report .exit)) r × (total r ≤ total counted + memberCount layout) ⌝ }
+{
+    let mut records = [0usize; MOST_MEMBERS];
+    let n = member_count(image, layout);
+    let k = collect_crowded(image, layout, texts, externals, n, &mut records);
+    report_collected(
+        image,
+        layout,
+        texts,
+        externals,
+        &mut records[0..k],
         report,
         counted,
     )
@@ -292,15 +431,8 @@ pub fn combined_domains<'a>(
     if !some_external(image, layout, externals) {
         return counted;
     }
-    let mut records = [0usize; MOST_MEMBERS];
-    let k = collect(image, layout, member_count(image, layout), &mut records);
-    report_collected(
-        image,
-        layout,
-        texts,
-        externals,
-        &mut records[0..k],
-        report,
-        counted,
-    )
+    if member_count(image, layout) <= FEW_MEMBERS {
+        return few_domains(image, layout, texts, externals, report, counted);
+    }
+    many_domains(image, layout, texts, externals, report, counted)
 }

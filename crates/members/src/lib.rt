@@ -76,7 +76,7 @@ pub fn member_external(image: &[u8], layout: Layout, externals: &[u32], x: usize
 }
 
 // It takes part in the grouping: an In with an iri, or a boundary input.
-fn member_joins(image: &[u8], layout: Layout, x: usize) -> bool
+pub fn member_joins(image: &[u8], layout: Layout, x: usize) -> bool
     requires { ⌜ Laid (now image) layout ⌝ }
     ensures { λ r. ⌜ r ≡ memberJoins (modelOf (now (image .entry))) x ⌝ }
 {

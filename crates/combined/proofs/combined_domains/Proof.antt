@@ -2,14 +2,9 @@
 -- Assumes nothing.
 use borrow.Author.Needs.{needs}
 use borrow.Author.Tests.{not-true}
-use Rattle.combined.proofs.Laws.{quiet-put, front-collected, front-few}
+use Rattle.combined.proofs.Laws.{quiet-put}
 use Rattle.combined.proofs.combined_domains.Statement.{statement}
 use Rattle.combined.proofs.combined_domains.Tie as tie
-
-report-collected-requires : tie.Need-report-collected-requires
-report-collected-requires c κs =
-    let pre = c .before .before .before .before .before .before .before .before .before .before .before .before .pre in
-    (pre .0, pre .1, pre .2, search (front-collected, needs), search (front-few, needs), pre .3)
 
 pub combined-domains-spec : {M : Type 1} → statement M
 combined-domains-spec =
@@ -18,11 +13,9 @@ combined-domains-spec =
     (λ c κs. search needs)
     (λ c. search (quiet-put, not-true, needs))
     (λ c κs. search needs)
-    (λ c. search needs)
     (λ c κs. search needs)
     (λ c. search needs)
     (λ c. search needs)
-    (λ c. search needs)
-    report-collected-requires
+    (λ c κs. search needs)
     (λ c. search needs)
     (λ c. search needs))

@@ -1,26 +1,25 @@
--- `combined::report_collected` meets its contract: the columns have room for the members.
+-- `combined::report_collected` meets its contract.
 -- Assumes nothing.
-use native.Mathlib.Omega.{arith}
 use borrow.Author.Needs.{needs}
+use Rattle.combined.proofs.Laws.{collected-none}
 use Rattle.combined.proofs.report_collected.Statement.{statement}
 use Rattle.combined.proofs.report_collected.Tie as tie
-
-report-listed-requires : tie.Need-report-listed-requires
-report-listed-requires c κs =
-    let pre = c .before .before .before .before .before .before .before .before .before .before .pre in
-    let count = c .before .before .before .before .member-count .ensures in
-    (pre .0, pre .1, pre .2, search needs, pre .3, pre .4, omega (arith, count .0, count .1, pre .4), pre .5)
 
 pub report-collected-spec : {M : Type 1} → statement M
 report-collected-spec =
     tie.close
     (tie.spec
+    (λ c. search (collected-none, needs))
+    (λ c κs. search needs)
     (λ c κs. search needs)
     (λ c. search needs)
     (λ c. search needs)
     (λ c. search needs)
+    (λ c κs. search needs)
     (λ c. search needs)
-    report-listed-requires
+    (λ c. search needs)
+    (λ c. search needs)
+    (λ c κs. search needs)
     (λ c. search needs)
     (λ c. search needs)
     (λ c. search needs))

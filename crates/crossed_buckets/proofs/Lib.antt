@@ -1,0 +1,2 @@
+-- Laws of the buckets.
+pub mod Laws

@@ -1,0 +1,20 @@
+-- `crossed_buckets::note_one` meets its contract.
+-- Assumes nothing.
+use borrow.Author.Needs.{needs}
+use Rattle.crossed_buckets.proofs.Laws.{noted-turn, noted-skip}
+use Rattle.crossed_buckets.proofs.note_one.Statement.{statement}
+use Rattle.crossed_buckets.proofs.note_one.Tie as tie
+
+pub note-one-spec : {M : Type 1} → statement M
+note-one-spec =
+    tie.close
+    (tie.spec
+    (λ c κs. search needs)
+    (λ c κs. search needs)
+    (λ c κs. search needs)
+    (λ c. search needs)
+    (λ c κs. search needs)
+    (λ c. search needs)
+    (λ c. search needs)
+    (λ c. search (noted-turn, needs))
+    (λ c. search (noted-skip, needs)))

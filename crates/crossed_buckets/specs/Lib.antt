@@ -1,0 +1,2 @@
+-- Buckets of the members of rule 5.4.
+pub mod Buckets
