@@ -66,6 +66,14 @@ module _ (m : Model) where
   abbrev pub crowdedMembers : ℕ → List ℕ
   crowdedMembers n = crowdedBelow n n
 
+  -- the bucket of member x, or the number of buckets where it doesn't take part
+  unfoldable pub placeOf : ℕ → ℕ
+  placeOf x = cond (memberJoins m x) (memberBucket x) bucketCount
+
+-- of the first n members those of crowded buckets, by their buckets and what is known of these
+unfoldable pub collected : List ℕ → List ℕ → ℕ → List ℕ
+collected places column n = each n (λ x. only (ltb (getD places x 0) bucketCount && eqb (getD column (getD places x 0) 0) crowded) x)
+
 -- the column has what is known of each bucket after the first n members
 pub record Noted (m : Model) (n : ℕ) (column : List ℕ) : Type 0 where
   pub long : length column ≡ bucketCount

@@ -9,8 +9,6 @@ pub collect-one-spec : {M : Type 1} → statement M
 collect-one-spec =
     tie.close
     (tie.spec
-    (λ c κs. search needs)
-    (λ c κs. search needs)
     (λ c. search needs)
     (λ c. search needs)
     (λ c. search needs)
