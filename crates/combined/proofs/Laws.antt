@@ -35,7 +35,6 @@ use Rattle.crossed_buckets.specs.Buckets.{isCrowded, crowdedBelow, crowdedMembe
 use Rattle.combined.specs.Runs.{runs}
 use Rattle.combined.proofs.Whole.{sorted-faults, quiet}
 use Rattle.combined.proofs.Crowded.{crowded-faults}
-use Rattle.combined.proofs.Reporting.{no-runs}
 use Rattle.combined.specs.Pass.{opened, grown, counts, passFaults, sameKey, Below, AllMembers, Stepped}
 use Rattle.combined.specs.declared.Pass.{Pass}
 
@@ -192,15 +191,12 @@ module _ {s : List ℕ} {l : Layout} (h : Laid s l) where
         → Put b c (groupsFaults (modelOf s) (groups (modelOf s))) b′ r
     collected-faults p = rw (e, crowded-faults (modelOf s) (memberCount l), sorted-faults (modelOf s) counted) at p
 
-    pub collected-none : {b : List ℕ} {c : Counted} → length xs ≡ 0 → Put b c (groupsFaults (modelOf s) (groups (modelOf s))) b c
-    collected-none {b} {c} n = collected-faults (no-runs (modelOf s) (sorted (memberKey (modelOf s)) xs) b c (sorted-length (memberKey (modelOf s)) xs ∙ n))
-
   pub quiet-put : {b : List ℕ} {c : Counted} {t : Bool} → t ≡ below (l .connectors .count) (memberExternal (modelOf s)) → t ≡ false → Put b c (groupsFaults (modelOf s) (groups (modelOf s))) b c
   quiet-put e f = rw (quiet (modelOf s) (ap (λ n. below n (memberExternal (modelOf s))) (sym (connectors-counted h)) ∙ sym e ∙ f)) put-none
 
 -- the front of a column, as the code cuts it: `xs[0..k]` has `k - 0` elements
-pub front-collected : (m : Model) (xs : List ℕ) (k : ℕ) {n l : ℕ} → take k xs ≡ crowdedMembers m n → n ≡ l → take (k - 0) xs ≡ crowdedMembers m l
-front-collected m xs k e f = let z : k - 0 ≡ k = omega arith in rw (z, e, f)
+pub front-collected : (m : Model) (n : ℕ) (xs : List ℕ) (k : ℕ) → take k xs ≡ crowdedMembers m n → take (k - 0) xs ≡ crowdedMembers m n
+front-collected m n xs k e = let z : k - 0 ≡ k = omega arith in rw (z, e)
 
-pub front-few : (xs : List ℕ) {k n l : ℕ} → k ≤ n → n ≡ l → length (take (k - 0) xs) ≤ l
-front-few xs {k} h f = rw (length-take (k - 0) xs) (omega (arith, min-le-left (k - 0) (length xs)))
+pub front-few : (xs : List ℕ) {k n : ℕ} → k ≤ n → length (take (k - 0) xs) ≤ n
+front-few xs {k} h = rw (length-take (k - 0) xs) (omega (arith, min-le-left (k - 0) (length xs)))

@@ -7,7 +7,6 @@ use bounds::take_in;
 use bounds::uncrossed;
 use crossed_bounds::Range;
 use crossed_buckets::collect_crowded;
-use members::list_iris;
 use members::member_external;
 use members::member_iri;
 use members::member_range;
@@ -203,7 +202,7 @@ fn report_groups<'a>(
     close(image, layout, p, report)
 }
 
-// Sorts the members by their iris, and reports their groups.
+// Sorts the members of crowded buckets by their iris, and reports their groups.
 fn report_members<'a>(
     image: &'a [u8],
     layout: Layout,
@@ -215,15 +214,15 @@ fn report_members<'a>(
     report: &mut [u8],
     counted: Counted,
 ) -> Counted
-    requires { ⌜ Laid (now image) layout × Tabled textTag (now image) (now texts) × Listed (modelOf (now image)) (now externals) × (now iri ≡ tab (memberCount layout) (memberIri (modelOf (now image)))) × Below (memberCount layout) (now records) × (length (now records) ≤ length (now scratch)) × (length (now records) < 65536) × (total counted ≤ 1000000) ⌝ }
-    ensures { λ r. ⌜ Put (now (report .entry)) counted (groupsFaults (modelOf (now (image .entry))) (runs (memberKey (modelOf (now (image .entry)))) (sorted (memberKey (modelOf (now (image .entry)))) (now (records .entry))))) (now (report .exit)) r × (total r ≤ total counted + length (now (records .entry))) ⌝ }
+    requires { ⌜ Laid (now image) layout × Tabled textTag (now image) (now texts) × Listed (modelOf (now image)) (now externals) × (now iri ≡ tab (memberCount layout) (memberIri (modelOf (now image)))) × (now records ≡ crowdedMembers (modelOf (now image)) (memberCount layout)) × (length (now records) ≤ memberCount layout) × (length (now records) ≤ length (now scratch)) × (total counted ≤ 1000000) ⌝ }
+    ensures { λ r. ⌜ Put (now (report .entry)) counted (groupsFaults (modelOf (now (image .entry))) (groups (modelOf (now (image .entry))))) (now (report .exit)) r × (total r ≤ total counted + memberCount layout) ⌝ }
 {
     sort(image, layout, texts, iri, records, scratch);
     report_groups(image, layout, texts, externals, records, report, counted)
 }
 
-// Lists the members' iris, and reports their groups.
-fn report_listed<'a>(
+// Finds them, and reports their groups; each column has room for all members.
+fn report_crowded<'a>(
     image: &'a [u8],
     layout: Layout,
     texts: &'a [usize],
@@ -234,136 +233,24 @@ fn report_listed<'a>(
     report: &mut [u8],
     counted: Counted,
 ) -> Counted
-    requires { ⌜ Laid (now image) layout × Tabled textTag (now image) (now texts) × Listed (modelOf (now image)) (now externals) × (length (now iri) ≡ memberCount layout) × (now records ≡ crowdedMembers (modelOf (now image)) (memberCount layout)) × (length (now records) ≤ memberCount layout) × (length (now records) ≤ length (now scratch)) × (total counted ≤ 1000000) ⌝ }
+    requires { ⌜ Laid (now image) layout × Tabled textTag (now image) (now texts) × Listed (modelOf (now image)) (now externals) × (length (now iri) ≡ memberCount layout) × (memberCount layout ≤ length (now scratch)) × (memberCount layout ≤ length (now records)) × (total counted ≤ 1000000) ⌝ }
     ensures { λ r. ⌜ Put (now (report .entry)) counted (groupsFaults (modelOf (now (image .entry))) (groups (modelOf (now (image .entry))))) (now (report .exit)) r × (total r ≤ total counted + memberCount layout) ⌝ }
 {
-    list_iris(image, layout, iri);
+    let k = collect_crowded(image, layout, texts, externals, iri, scratch, records);
     report_members(
         image,
         layout,
         texts,
         externals,
         iri,
-        records,
+        &mut records[0..k],
         scratch,
         report,
         counted,
     )
 }
 
-// The same, with a column for the iris and one to sort in, where members are few.
-fn few_collected<'a>(
-    image: &'a [u8],
-    layout: Layout,
-    texts: &'a [usize],
-    externals: &'a [u32],
-    records: &mut [usize],
-    report: &mut [u8],
-    counted: Counted,
-) -> Counted
-    requires { ⌜ Laid (now image) layout × Tabled textTag (now image) (now texts) × Listed (modelOf (now image)) (now externals) × (now records ≡ crowdedMembers (modelOf (now image)) (memberCount layout)) × (length (now records) ≤ memberCount layout) × (total counted ≤ 1000000) × (memberCount layout ≤ fewMembers) ⌝ }
-    ensures { λ r. ⌜ Put (now (report .entry)) counted (groupsFaults (modelOf (now (image .entry))) (groups (modelOf (now (image .entry))))) (now (report .exit)) r × (total r ≤ total counted + memberCount layout) ⌝ }
-{
-    let mut iri = [0u16; FEW_MEMBERS];
-    let mut scratch = [0usize; FEW_MEMBERS];
-    let n = member_count(image, layout);
-    report_listed(
-        image,
-        layout,
-        texts,
-        externals,
-        &mut iri[0..n],
-        records,
-        &mut scratch,
-        report,
-        counted,
-    )
-}
-
-// Where those to sort are few.
-fn some_collected<'a>(
-    image: &'a [u8],
-    layout: Layout,
-    texts: &'a [usize],
-    externals: &'a [u32],
-    records: &mut [usize],
-    report: &mut [u8],
-    counted: Counted,
-) -> Counted
-    requires { ⌜ Laid (now image) layout × Tabled textTag (now image) (now texts) × Listed (modelOf (now image)) (now externals) × (now records ≡ crowdedMembers (modelOf (now image)) (memberCount layout)) × (length (now records) ≤ memberCount layout) × (total counted ≤ 1000000) × (length (now records) ≤ fewMembers) ⌝ }
-    ensures { λ r. ⌜ Put (now (report .entry)) counted (groupsFaults (modelOf (now (image .entry))) (groups (modelOf (now (image .entry))))) (now (report .exit)) r × (total r ≤ total counted + memberCount layout) ⌝ }
-{
-    let mut iri = [0u16; MOST_MEMBERS];
-    let mut scratch = [0usize; FEW_MEMBERS];
-    let n = member_count(image, layout);
-    report_listed(
-        image,
-        layout,
-        texts,
-        externals,
-        &mut iri[0..n],
-        records,
-        &mut scratch,
-        report,
-        counted,
-    )
-}
-
-// For any number of them.
-fn many_collected<'a>(
-    image: &'a [u8],
-    layout: Layout,
-    texts: &'a [usize],
-    externals: &'a [u32],
-    records: &mut [usize],
-    report: &mut [u8],
-    counted: Counted,
-) -> Counted
-    requires { ⌜ Laid (now image) layout × Tabled textTag (now image) (now texts) × Listed (modelOf (now image)) (now externals) × (now records ≡ crowdedMembers (modelOf (now image)) (memberCount layout)) × (length (now records) ≤ memberCount layout) × (total counted ≤ 1000000) ⌝ }
-    ensures { λ r. ⌜ Put (now (report .entry)) counted (groupsFaults (modelOf (now (image .entry))) (groups (modelOf (now (image .entry))))) (now (report .exit)) r × (total r ≤ total counted + memberCount layout) ⌝ }
-{
-    let mut iri = [0u16; MOST_MEMBERS];
-    let mut scratch = [0usize; MOST_MEMBERS];
-    let n = member_count(image, layout);
-    report_listed(
-        image,
-        layout,
-        texts,
-        externals,
-        &mut iri[0..n],
-        records,
-        &mut scratch,
-        report,
-        counted,
-    )
-}
-
-// Where none is to be sorted there is nothing to report.
-fn report_collected<'a>(
-    image: &'a [u8],
-    layout: Layout,
-    texts: &'a [usize],
-    externals: &'a [u32],
-    records: &mut [usize],
-    report: &mut [u8],
-    counted: Counted,
-) -> Counted
-    requires { ⌜ Laid (now image) layout × Tabled textTag (now image) (now texts) × Listed (modelOf (now image)) (now externals) × (now records ≡ crowdedMembers (modelOf (now image)) (memberCount layout)) × (length (now records) ≤ memberCount layout) × (total counted ≤ 1000000) ⌝ }
-    ensures { λ r. ⌜ Put (now (report .entry)) counted (groupsFaults (modelOf (now (image .entry))) (groups (modelOf (now (image .entry))))) (now (report .exit)) r × (total r ≤ total counted + memberCount layout) ⌝ }
-{
-    if records.len() == 0 {
-        return counted;
-    }
-    if member_count(image, layout) <= FEW_MEMBERS {
-        return few_collected(image, layout, texts, externals, records, report, counted);
-    }
-    if records.len() <= FEW_MEMBERS {
-        return some_collected(image, layout, texts, externals, records, report, counted);
-    }
-    many_collected(image, layout, texts, externals, records, report, counted)
-}
-
-// The members of crowded buckets, and their groups, where members are few.
+// The same with columns of its own, where members are few.
 fn few_domains<'a>(
     image: &'a [u8],
     layout: Layout,
@@ -375,15 +262,18 @@ fn few_domains<'a>(
     requires { ⌜ Laid (now image) layout × Tabled textTag (now image) (now texts) × Listed (modelOf (now image)) (now externals) × (total counted ≤ 1000000) × (memberCount layout ≤ fewMembers) ⌝ }
     ensures { λ r. ⌜ Put (now (report .entry)) counted (groupsFaults (modelOf (now (image .entry))) (groups (modelOf (now (image .entry))))) (now (report .exit)) r × (total r ≤ total counted + memberCount layout) ⌝ }
 {
+    let mut iri = [0u16; FEW_MEMBERS];
     let mut records = [0usize; FEW_MEMBERS];
+    let mut scratch = [0usize; FEW_MEMBERS];
     let n = member_count(image, layout);
-    let k = collect_crowded(image, layout, texts, externals, n, &mut records);
-    report_collected(
+    report_crowded(
         image,
         layout,
         texts,
         externals,
-        &mut records[0..k],
+        &mut iri[0..n],
+        &mut records,
+        &mut scratch,
         report,
         counted,
     )
@@ -401,15 +291,18 @@ fn many_domains<'a>(
     requires { ⌜ Laid (now image) layout × Tabled textTag (now image) (now texts) × Listed (modelOf (now image)) (now externals) × (total counted ≤ 1000000) ⌝ }
     ensures { λ r. ⌜ Put (now (report .entry)) counted (groupsFaults (modelOf (now (image .entry))) (groups (modelOf (now (image .entry))))) (now (report .exit)) r × (total r ≤ total counted + memberCount layout) ⌝ }
 {
+    let mut iri = [0u16; MOST_MEMBERS];
     let mut records = [0usize; MOST_MEMBERS];
+    let mut scratch = [0usize; MOST_MEMBERS];
     let n = member_count(image, layout);
-    let k = collect_crowded(image, layout, texts, externals, n, &mut records);
-    report_collected(
+    report_crowded(
         image,
         layout,
         texts,
         externals,
-        &mut records[0..k],
+        &mut iri[0..n],
+        &mut records,
+        &mut scratch,
         report,
         counted,
     )

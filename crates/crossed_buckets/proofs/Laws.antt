@@ -17,8 +17,8 @@ use Rattle.base.proofs.Lists.{each-next, each-same, length-tab, getD-tab, steps
 use Rattle.numbers.specs.Bytes.{le64}
 use Rattle.oce_model.specs.Model.{Model, text}
 use Rattle.crossed_bounds.specs.CrossedBounds.{memberIri, memberExternal, memberKey}
-use Rattle.members.specs.Members.{memberJoins, Continued}
-use Rattle.crossed_buckets.specs.Buckets.{bucketCount, bucketOf, empty, severalInner, oneInner, oneExternal, crowded, noted, memberBucket, placeOf, afterMember, known, isCrowded, collected, crowdedBelow, crowdedMembers, Noted}
+use Rattle.members.specs.Members.{memberJoins}
+use Rattle.crossed_buckets.specs.Buckets.{bucketCount, bucketOf, empty, severalInner, oneInner, oneExternal, crowded, noted, memberBucket, placeOf, afterMember, known, isCrowded, collected, crowdedBelow, crowdedMembers, Noted, Continued}
 
 -- ---- one member
 

@@ -1,12 +1,12 @@
 -- The members of rule 5.4 in buckets by the bytes of their iris: members with one iri are in one bucket, so a group that is reported is in a bucket
 -- of several members, one of them external.
 -- Assumes nothing.
-use Prim.Native.Nat.{ℕ, _-_, _%_, _<_}
+use Prim.Native.Nat.{ℕ, _+_, _-_, _%_, _≤_, _<_}
 use mathlib.Core.Path.{_≡_}
 use mathlib.Core.Bool.{Bool, cond, _&&_, _||_}
-use mathlib.Core.List.{List}
+use mathlib.Core.List.{List, _++_}
 use lib.Dec.{eqb, ltb}
-use lib.ListN.{length, getD}
+use lib.ListN.{length, getD, take}
 use Rattle.base.specs.Lists.{each, steps, only}
 use Rattle.numbers.specs.Bytes.{le64}
 use Rattle.oce_model.specs.Model.{Model}
@@ -78,3 +78,8 @@ collected places column n = each n (λ x. only (ltb (getD places x 0) bucketCoun
 pub record Noted (m : Model) (n : ℕ) (column : List ℕ) : Type 0 where
   pub long : length column ≡ bucketCount
   pub at : (b : ℕ) → b < bucketCount → getD column b 0 ≡ known m n b
+
+-- the list xs, after its first n, is continued by ys up to r
+pub record Continued (n : ℕ) (ys xs xs′ : List ℕ) (r : ℕ) : Type 0 where
+  pub few : r ≤ n + 1
+  pub front : take r xs′ ≡ take n xs ++ ys

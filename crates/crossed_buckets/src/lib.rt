@@ -18,8 +18,8 @@ ghost use Rattle.oce_model.specs.Model.{modelOf};
 ghost use Rattle.accept.specs.Layout.{Laid, Tabled};
 ghost use Rattle.externals.specs.Columns.{Listed};
 ghost use Rattle.crossed_bounds.specs.CrossedBounds.{memberIri};
-ghost use Rattle.members.specs.Members.{memberCount, isMember, Continued};
-ghost use Rattle.crossed_buckets.specs.Buckets.{bucketCount, bucketOf, placeOf, crowded, noted, collected, crowdedMembers, Noted};
+ghost use Rattle.members.specs.Members.{memberCount, isMember};
+ghost use Rattle.crossed_buckets.specs.Buckets.{bucketCount, bucketOf, placeOf, crowded, noted, collected, crowdedMembers, Noted, Continued};
 
 // How many buckets there are: a prime, so that each of the eight bytes tells.
 const BUCKETS: usize = 1021;

@@ -1,18 +1,15 @@
 -- What the functions over one member return, and what their loops leave.
 -- Assumes nothing.
 use Prim.Native.Nat.{ℕ, _+_, _-_, _≤_, _<_}
-use native.Mathlib.Numerals.{add-one}
 use native.Mathlib.Omega.{arith}
 use mathlib.Core.Path.{_≡_, refl, sym, ap, _∙_}
 use mathlib.Core.Logic.{_≢_}
 use mathlib.Core.Bool.{Bool, true, false, not}
-use mathlib.Core.List.{List, [], _∷_, _++_, append-nil}
+use mathlib.Core.List.{List}
 use lib.Dec.{eqb}
-use lib.ListN.{length, take, set, length-set}
-use lib.Seq.{take-suc-set, take-all}
 use borrow.Author.Tests.{eq-eqb, ne-eqb, lt-ltb, le-ltb}
-use Rattle.base.specs.Lists.{each, tab, only, below}
-use Rattle.base.proofs.Lists.{each-next, below-next, below-some}
+use Rattle.base.specs.Lists.{below}
+use Rattle.base.proofs.Lists.{below-next, below-some}
 use Rattle.oce_model.specs.Format.{dirIn, noText}
 use Rattle.oce_model.specs.Attributes.{Attrs}
 use Rattle.oce_model.specs.Model.{Model, modelOf, connector, boundaryInput, isConnector}
@@ -25,7 +22,7 @@ use Rattle.structural.specs.Degrees.{external}
 use Rattle.crossed_bounds.specs.Ranges.{rangeOf}
 use Rattle.crossed_bounds.specs.CrossedBounds.{memberIri, memberAttrs, memberExternal, joins}
 use Rattle.crossed_bounds.specs.declared.Range.{Range}
-use Rattle.members.specs.Members.{memberRange, memberJoins, joining, Continued}
+use Rattle.members.specs.Members.{memberRange, memberJoins}
 
 -- ---- one member
 
@@ -81,67 +78,6 @@ module _ {s : List ℕ} {l : Layout} (h : Laid s l) {x : ℕ} where
 
 pub range-is : (m : Model) (x : ℕ) {a : Attrs} {r : Range} → a ≡ memberAttrs m x → r ≡ rangeOf m a → r ≡ memberRange m x
 range-is m x e f = f ∙ ap (rangeOf m) e
-
--- ---- a column filled from its front
-
--- the first i entries of xs₀ are f 0 to f (i - 1)
-pub record Fills (f : ℕ → ℕ) (xs₀ xs : List ℕ) (i : ℕ) : Type 0 where
-  pub within : i ≤ length xs₀
-  pub long : length xs ≡ length xs₀
-  pub front : take i xs ≡ tab i f
-
-module _ {f : ℕ → ℕ} {xs₀ : List ℕ} where
-  pub fills-start : Fills f xs₀ xs₀ 0
-  unfolding each
-  fills-start = record { within = omega arith; long = refl; front = refl }
-
-  pub fills-turn : {xs : List ℕ} {i v : ℕ} → Fills f xs₀ xs i → v ≡ f i → i < length xs → Fills f xs₀ (set xs i v) (i + 1)
-  fills-turn {xs} {i} {v} w e h =
-      let t : take (i + 1) (set xs i v) ≡ take i xs ++ (v ∷ []) = rw (add-one i) (take-suc-set xs i v h) in
-      record {
-        within = omega (arith, w .long);
-        long = length-set xs i v ∙ w .long;
-        front = t ∙ rw (w .front, e, each-next i (λ j. f j ∷ []));
-      }
-
-  pub fills-all : {xs : List ℕ} {i n : ℕ} → Fills f xs₀ xs i → length xs ≤ i → length xs₀ ≡ n → xs ≡ tab n f
-  fills-all {xs} {i} {n} w h e =
-      let k : i ≡ n = omega (arith, w .within, w .long) in
-      sym (take-all i xs h) ∙ w .front ∙ rw k
-
--- ---- collecting
-
-module _ (m : Model) (i : ℕ) {n : ℕ} {t : Bool} (e : t ≡ memberJoins m i) where
-  pub collect-yes : {xs : List ℕ} → t ≡ true → n < length xs → Continued n (only (memberJoins m i) i) xs (set xs n i) (n + 1)
-  collect-yes {xs} h l = rw (← e, h) (record { few = omega arith; front = rw (add-one n) (take-suc-set xs n i l) })
-
-  pub collect-no : {xs : List ℕ} → t ≡ false → Continued n (only (memberJoins m i) i) xs xs n
-  collect-no {xs} h = rw (← e, h) (record { few = omega arith; front = sym (append-nil (take n xs)) })
-
--- i members are looked at, and the n of them that take part stand at the front
-pub record Collects (m : Model) (count : ℕ) (xs₀ xs : List ℕ) (n i : ℕ) : Type 0 where
-  pub within : i ≤ count
-  pub few : n ≤ i
-  pub long : length xs ≡ length xs₀
-  pub front : take n xs ≡ joining m i
-
-module _ {m : Model} {count : ℕ} {xs₀ : List ℕ} where
-  pub collects-start : Collects m count xs₀ xs₀ 0 0
-  unfolding joining each
-  collects-start = record { within = omega arith; few = omega arith; long = refl; front = refl }
-
-  pub collects-turn : {xs xs′ : List ℕ} {n r i : ℕ} → Collects m count xs₀ xs n i → Continued n (only (memberJoins m i) i) xs xs′ r → i < count → length xs′ ≡ length xs
-      → Collects m count xs₀ xs′ r (i + 1)
-  unfolding joining
-  collects-turn {i = i} v c h l = record {
-    within = omega arith;
-    few = omega (arith, v .few, c .few);
-    long = l ∙ v .long;
-    front = c .front ∙ rw (v .front) (sym (each-next i (λ x. only (memberJoins m x) x)));
-  }
-
-  pub collects-all : {xs : List ℕ} {n i : ℕ} → Collects m count xs₀ xs n i → count ≤ i → take n xs ≡ joining m count
-  collects-all {i = i} v h = let e : count ≡ i = omega (arith, v .within) in rw e (v .front)
 
 -- ---- one that is external
 

@@ -1,10 +1,8 @@
 -- The members of the groups of rule 5.4 by number, and which of them take part.
 -- Assumes nothing.
-use Prim.Native.Nat.{ℕ, _+_, _≤_, _<_}
-use mathlib.Core.Path.{_≡_}
+use Prim.Native.Nat.{ℕ, _+_, _<_}
 use mathlib.Core.Bool.{Bool, true, cond}
-use mathlib.Core.List.{List, _++_}
-use lib.ListN.{take}
+use mathlib.Core.List.{List}
 use Rattle.base.specs.Lists.{each, only}
 use Rattle.oce_model.specs.Model.{Model, connector, isConnector}
 use Rattle.accept.specs.declared.Layout.{Layout}
@@ -29,8 +27,3 @@ memberJoins m x = cond (isConnector m x) (joins (connector m x)) true
 -- those of the first n that take part
 unfoldable pub joining : Model → ℕ → List ℕ
 joining m n = each n (λ x. only (memberJoins m x) x)
-
--- the list xs, after its first n, is continued by ys up to r
-pub record Continued (n : ℕ) (ys xs xs′ : List ℕ) (r : ℕ) : Type 0 where
-  pub few : r ≤ n + 1
-  pub front : take r xs′ ≡ take n xs ++ ys

@@ -13,15 +13,15 @@ use records::connector;
 use records::connector_attrs;
 ghost use mathlib.Core.Path.{_≡_};
 ghost use Prim.Native.Nat.{_+_, _<_, _≤_};
-ghost use lib.ListN.{length, take};
-ghost use Rattle.base.specs.Lists.{tab, only, below};
+ghost use lib.ListN.{length};
+ghost use Rattle.base.specs.Lists.{below};
 ghost use Rattle.oce_model.specs.Format.{longestImage, connectorAttrs, attrsLength};
 ghost use Rattle.oce_model.specs.Attributes.{attrsAt};
 ghost use Rattle.oce_model.specs.Model.{modelOf};
 ghost use Rattle.accept.specs.Layout.{Laid};
 ghost use Rattle.externals.specs.Columns.{Listed};
 ghost use Rattle.crossed_bounds.specs.CrossedBounds.{memberIri, memberAttrs, memberExternal};
-ghost use Rattle.members.specs.Members.{memberCount, isMember, memberRange, memberJoins, joining, Continued};
+ghost use Rattle.members.specs.Members.{memberCount, isMember, memberRange, memberJoins};
 
 // ---- one member
 
@@ -93,44 +93,6 @@ pub fn member_joins(image: &[u8], layout: Layout, x: usize) -> bool
 }
 
 // ---- all members
-
-// The text numbers of their iris.
-pub fn list_iris(image: &[u8], layout: Layout, iri: &mut [u16])
-    requires { ⌜ Laid (now image) layout × (length (now iri) ≡ memberCount layout) ⌝ }
-    ensures { λ _. ⌜ now (iri .exit) ≡ tab (memberCount layout) (memberIri (modelOf (now (image .entry)))) ⌝ }
-{
-    let mut i = 0;
-    while i < iri.len() {
-        iri[i] = member_iri(image, layout, i) as u16;
-        i += 1;
-    }
-}
-
-// Member i behind the n that were collected, if it takes part. How many there are then.
-fn collect_one(image: &[u8], layout: Layout, i: usize, records: &mut [usize], n: usize) -> usize
-    requires { ⌜ Laid (now image) layout × (n < length (now records)) ⌝ }
-    ensures { λ r. ⌜ Continued n (only (memberJoins (modelOf (now (image .entry))) i) i) (now (records .entry)) (now (records .exit)) r ⌝ }
-{
-    if member_joins(image, layout, i) {
-        records[n] = i;
-        return n + 1;
-    }
-    n
-}
-
-// Those of the first count members that take part, at the front of records. How many there are.
-pub fn collect(image: &[u8], layout: Layout, count: usize, records: &mut [usize]) -> usize
-    requires { ⌜ Laid (now image) layout × (count ≤ length (now records)) ⌝ }
-    ensures { λ r. ⌜ (take r (now (records .exit)) ≡ joining (modelOf (now (image .entry))) count) × (r ≤ count) ⌝ }
-{
-    let mut n = 0;
-    let mut i = 0;
-    while i < count {
-        n = collect_one(image, layout, i, records, n);
-        i += 1;
-    }
-    n
-}
 
 // A member is external.
 pub fn some_external(image: &[u8], layout: Layout, externals: &[u32]) -> bool
