@@ -13,10 +13,6 @@ use Rattle.unify.specs.Unify.{declared, fill, fillFaults, displayFaults, fills,
 use Rattle.slots.specs.Columns.{view, Room}
 use Rattle.unify_seen.specs.Seen.{shows}
 
--- detail d is declared by no member where it doesn't show in what was seen of them
-pub record Unseen (d s : ℕ) (ks ms ns js : List ℕ) (real integer : ℕ) : Type 0 where
-  pub none : shows d real integer ≡ false → declared d (view s ks ms ns) js ≡ []
-
 -- by one detail
 pub record Detailed (m : Model) (r d s : ℕ) (ks js ms ns ms′ ns′ b : List ℕ) (c : Counted) (b′ : List ℕ) (c′ : Counted) : Type 0 where
   pub slots : view s ks ms′ ns′ ≡ fill m js d (view s ks ms ns)
@@ -41,3 +37,7 @@ pub record Clustered (m : Model) (r s : ℕ) (ks js ms ns ms′ ns′ b : List �
   pub slots : view s ks ms′ ns′ ≡ fills m js unifiedDetails (view s ks ms ns)
   pub put : Put b c (clusterFaults m r js (view s ks ms ns)) b′ c′
   pub few : total c′ ≤ total c + 7
+
+-- what lets detail d be skipped: where it doesn't show in what was seen of the members, none of them declares it
+pub record Unseen (d s : ℕ) (ks ms ns js : List ℕ) (real integer : ℕ) : Type 0 where
+  pub none : shows d real integer ≡ false → declared d (view s ks ms ns) js ≡ []

@@ -43,7 +43,7 @@ pub kind-high : (d : ℕ) → 6 < d → d ≤ displayDetail → realKind ≡ kin
 unfolding kindOf
 kind-high d l h = let e : displayDetail ≡ d = omega arith in ap kindOf e
 
--- a number that is none of the details has none of their bits
+-- a number up to the last detail that is none of the details is 0
 pub few-left : (d : ℕ) → d ≤ displayDetail → (d ≡ 4 → ⊥) → (d ≡ 5 → ⊥) → (d ≡ 6 → ⊥) → (d ≡ 7 → ⊥) → d < 4
 few-left d h k l m n = omega arith
 

@@ -26,7 +26,7 @@ pub struct Given {
 
 // ---- details
 
-// The kind that detail d is an attribute of.
+// The kind that detail d is an attribute of: 5 and 6 are the ends of an Integer.
 pub fn kind_of(d: usize) -> usize
     requires { ⌜ d ≤ displayDetail ⌝ }
     ensures { λ r. ⌜ r ≡ kindOf d ⌝ }

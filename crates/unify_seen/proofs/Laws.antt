@@ -45,12 +45,12 @@ bit-zero p = rw (zero-div (2 ^ p))
 
 -- ---- one member
 
-module _ (k kind marks b : ℕ) {x : ℕ} (ex : x ≡ kind) where
-  pub taken-kind : x ≡ k → TakenIn k kind marks b (bitOr b marks)
-  taken-kind e = record { old = λ p h. or-clear b marks p h .0; new = λ p f h. or-clear b marks p h .1 }
+module _ (k kind marks b : ℕ) where
+  pub taken-marks : TakenIn k kind marks b (bitOr b marks)
+  taken-marks = record { old = λ p h. or-clear b marks p h .0; new = λ p f h. or-clear b marks p h .1 }
 
-  pub taken-other : (x ≡ k → ⊥) → TakenIn k kind marks b b
-  taken-other n = record { old = λ p h. h; new = λ p f h. absurd (n (ex ∙ f)) }
+  pub taken-none : {x : ℕ} → x ≡ kind → (x ≡ k → ⊥) → TakenIn k kind marks b b
+  taken-none ex n = record { old = λ p h. h; new = λ p f h. absurd (n (ex ∙ f)) }
 
 -- ---- all members
 
