@@ -11,6 +11,7 @@ use Rattle.oce_model.specs.Model.{Model}
 use Rattle.structural.specs.Degrees.{external}
 use Rattle.number_sort.specs.Sort.{sorted}
 
+-- half of a number, rounded down
 unfoldable pub half : ℕ → ℕ
 half n = n / 2
 
