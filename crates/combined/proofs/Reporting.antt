@@ -80,6 +80,11 @@ pub record Passed (m : Model) (n : ℕ) (xs b₀ : List ℕ) (c₀ : Counted) (b
   pub put : Put b₀ c₀ (groupsFaults m done) b (p .counted)
   pub split : runs (memberKey m) xs ≡ done ++ runsFrom (memberKey m) group (drop i xs)
 
+pub no-runs : (m : Model) (xs b : List ℕ) (c : Counted) → length xs ≡ 0 → Put b c (groupsFaults m (runs (memberKey m) xs)) b c
+unfolding runs groupsFaults
+no-runs m [] b c h = put-none
+no-runs m (x ∷ xs) b c h = absurd (omega arith)
+
 runs-start : (key : ℕ → List ℕ) (xs : List ℕ) → 0 < length xs → runs key xs ≡ runsFrom key (alone (getD xs 0 0)) (drop 1 xs)
 unfolding runs
 runs-start key [] h = absurd (omega arith)
