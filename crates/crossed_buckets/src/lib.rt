@@ -34,6 +34,7 @@ const CROWDED: u8 = 4;
 
 // ---- one member
 
+// The bucket of a number.
 fn narrow(h: u64) -> usize
     ensures { λ r. ⌜ (r ≡ h % bucketCount) × (r < bucketCount) ⌝ }
 {
@@ -98,6 +99,7 @@ fn note_one<'a>(
     }
 }
 
+// The first count members.
 fn note_all<'a>(
     image: &'a [u8],
     layout: Layout,
@@ -143,6 +145,7 @@ fn collect_one<'a>(
     n
 }
 
+// Those of the first count members, by what is known of their buckets.
 fn collect_known<'a>(
     image: &'a [u8],
     layout: Layout,
