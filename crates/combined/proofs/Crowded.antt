@@ -10,7 +10,7 @@ use lib.Dec.{eqb, ltb}
 use lib.ListN.{length}
 use borrow.Author.Tests.{eq-eqb, eqb-true, eqb-false, ltb-false}
 use Rattle.base.specs.Lists.{each, steps, any, only, keep}
-use Rattle.base.proofs.Lists.{any-append, or-parts}
+use Rattle.base.proofs.Lists.{any-append}
 use Rattle.oce_model.specs.Texts.{order}
 use Rattle.oce_model.specs.Model.{Model}
 use Rattle.oce_model.specs.declared.Ordering.{Ordering}

@@ -37,6 +37,7 @@ const CROWDED: u8 = 4;
 
 // ---- one member
 
+// The bucket of a number.
 fn narrow(h: u64) -> usize
     ensures { λ r. ⌜ (r ≡ h % bucketCount) × (r < bucketCount) ⌝ }
 {
@@ -121,6 +122,7 @@ fn note_one<'a>(
     note_in(image, layout, externals, x, b, known);
 }
 
+// All members.
 fn note_all<'a>(
     image: &'a [u8],
     layout: Layout,
@@ -159,6 +161,7 @@ fn collect_one(known: &[u8], b: usize, x: usize, records: &mut [usize], n: usize
     n
 }
 
+// Those of the first count members, by their buckets and what is known of these.
 fn collect_known(count: usize, places: &[usize], known: &[u8], records: &mut [usize]) -> usize
     requires { ⌜ (bucketCount ≤ length (now known)) × (count ≤ length (now places)) × (count ≤ length (now records)) ⌝ }
     ensures { λ r. ⌜ (take r (now (records .exit)) ≡ collected (now (places .entry)) (now (known .entry)) count) × (r ≤ count) ⌝ }
