@@ -1,7 +1,7 @@
 -- The parts of refusal 6's attribute rules and of refusal 8 that go by the byte of set bits, over the numbers that code reads.
 -- Assumes nothing.
 use Prim.Native.Nat.{ℕ}
-use mathlib.Core.Bool.{Bool, not, _&&_, _||_}
+use mathlib.Core.Bool.{Bool, cond, not, _&&_, _||_}
 use lib.Dec.{eqb, ltb, leb}
 use Rattle.numbers.specs.Bytes.{bit}
 use Rattle.oce_model.specs.Format.{dirOut, integerKind, enumKind, quantityBit, unitBit, displayUnitBit, minBit, maxBit, nominalBit, unboundedBit, unboundedValueBit}
@@ -17,6 +17,10 @@ badMarks k m = ltb enumKind k || (bit m unboundedValueBit && not (bit m unbounde
 -- the number x stands under bit p, which isn't set
 abbrev pub isStray : ℕ → ℕ → ℕ → Bool
 isStray m p x = not (bit m p) && not (eqb x 0)
+
+-- that number, or 0
+abbrev pub strayPart : ℕ → ℕ → ℕ → ℕ
+strayPart m p x = cond (bit m p) 0 x
 
 -- one of the numbers of attributes stands under a bit that isn't set
 abbrev pub straying : ℕ → ℕ → ℕ → ℕ → ℕ → ℕ → ℕ → Bool

@@ -29,7 +29,7 @@ use oce_model::VERSION;
 ghost use mathlib.Core.Path.{_≡_};
 ghost use Prim.Native.Nat.{_+_, _<_, _≤_};
 ghost use Rattle.numbers.specs.Bytes.{bit};
-ghost use Rattle.contents.specs.Marks.{notOfInteger, badMarks, isStray, straying, badTextNumber, missing, badType};
+ghost use Rattle.contents.specs.Marks.{notOfInteger, badMarks, strayPart, straying, badTextNumber, missing, badType};
 ghost use Rattle.oce_model.specs.Format.{longestImage, connectorAttrs};
 ghost use Rattle.oce_model.specs.Attributes.{attrsAt};
 ghost use Rattle.oce_model.specs.Model.{connectorAt};
@@ -46,12 +46,15 @@ pub fn is_set(marks: usize, p: usize) -> bool
     (marks >> p) % 2 == 1
 }
 
-// A number stands under bit p, though the bit isn't set.
-fn is_stray(marks: usize, p: usize, number: u64) -> bool
+// The number under bit p, if the bit isn't set, else 0.
+fn stray_part(marks: usize, p: usize, number: u64) -> u64
     requires { ⌜ (marks < 256) × (p < 8) ⌝ }
-    ensures { λ r. ⌜ r ≡ isStray marks p number ⌝ }
+    ensures { λ r. ⌜ r ≡ strayPart marks p number ⌝ }
 {
-    !is_set(marks, p) & (number != 0)
+    if is_set(marks, p) {
+        return 0;
+    }
+    number
 }
 
 // One of the numbers of attributes stands under a bit that isn't set.
@@ -67,12 +70,13 @@ pub fn is_straying(
     requires { ⌜ marks < 256 ⌝ }
     ensures { λ r. ⌜ r ≡ straying marks quantity unit display min max nominal ⌝ }
 {
-    is_stray(marks, QUANTITY_BIT, quantity as u64)
-        | is_stray(marks, UNIT_BIT, unit as u64)
-        | is_stray(marks, DISPLAY_UNIT_BIT, display as u64)
-        | is_stray(marks, MIN_BIT, min)
-        | is_stray(marks, MAX_BIT, max)
-        | is_stray(marks, NOMINAL_BIT, nominal)
+    let strays = stray_part(marks, QUANTITY_BIT, quantity as u64)
+        | stray_part(marks, UNIT_BIT, unit as u64)
+        | stray_part(marks, DISPLAY_UNIT_BIT, display as u64)
+        | stray_part(marks, MIN_BIT, min)
+        | stray_part(marks, MAX_BIT, max)
+        | stray_part(marks, NOMINAL_BIT, nominal);
+    strays != 0
 }
 
 // An Integer sets only min and max.

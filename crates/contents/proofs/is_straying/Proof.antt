@@ -1,7 +1,7 @@
--- `contents::is_straying` meets its contract: each number.
+-- `contents::is_straying` meets its contract.
 -- Assumes nothing.
 use borrow.Author.Needs.{needs}
-use Rattle.contents.proofs.Tests.{same-or}
+use Rattle.contents.proofs.Strays.{strays-more, strays-one}
 use Rattle.contents.proofs.is_straying.Statement.{statement}
 use Rattle.contents.proofs.is_straying.Tie as tie
 
@@ -15,4 +15,4 @@ is-straying-spec =
     (λ c κs. search needs)
     (λ c κs. search needs)
     (λ c κs. search needs)
-    (λ c. search (same-or, needs)))
+    (λ c. search (strays-more, strays-one, needs)))
