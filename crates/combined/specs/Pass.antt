@@ -23,7 +23,7 @@ use Rattle.combined.specs.declared.Pass.{Pass}
 
 -- so many members have shorter arrays
 abbrev pub fewMembers : ℕ
-fewMembers = 96
+fewMembers = 256
 
 -- a group is opened by member x, which is external or not and has range r
 unfoldable pub opened : Counted → ℕ → Bool → Range → Pass

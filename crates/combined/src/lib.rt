@@ -42,7 +42,7 @@ ghost use Rattle.combined.specs.Pass.{fewMembers, opened, grown, counts,
 const MOST_MEMBERS: usize = MOST_CONNECTORS + MOST_BOUNDARY_INPUTS;
 
 // So many have shorter arrays, which are sooner cleared.
-const FEW_MEMBERS: usize = 96;
+const FEW_MEMBERS: usize = 256;
 
 // The open group: what was counted before it, its first member, how many it has, whether one is external,
 // and what their ranges leave.

@@ -17,7 +17,7 @@ use Rattle.rules.specs.Ran.{mostDiagnostics}
 
 -- so many slots have shorter columns
 abbrev pub fewSlots : ℕ
-fewSlots = 64
+fewSlots = 192
 
 -- the answer and both buffers after a call: s is the image, f and r the buffers at entry, f′ and r′ at exit
 pub record Answered (s f r : List ℕ) (a : Answer) (f′ r′ : List ℕ) : Type 0 where

@@ -37,7 +37,7 @@ const EARLY: usize = DIAGNOSTIC_SIZE * 64;
 const MOST_NUMBERS: usize = WIDTH * MOST_SLOTS;
 
 // So many slots have shorter columns, which are sooner cleared.
-const FEW_SLOTS: usize = 64;
+const FEW_SLOTS: usize = 192;
 
 const FEW_NUMBERS: usize = WIDTH * FEW_SLOTS;
 

@@ -25,7 +25,7 @@ pub record Ready (image : List ℕ) (layout : Layout) (texts blocks ks ms ns : L
 
 -- so many connectors, and so many external inputs, have shorter columns
 abbrev pub fewRecords : ℕ
-fewRecords = 64
+fewRecords = 192
 
 -- nothing counted
 abbrev pub none : Counted

@@ -24,7 +24,7 @@ ghost use Rattle.slots.specs.Columns.{slotCount, Room};
 ghost use Rattle.rules.specs.Ran.{fewRecords, firstFive, Ready, Ran};
 
 // So many connectors, and so many external inputs, have shorter columns, which are sooner cleared.
-const FEW_RECORDS: usize = 64;
+const FEW_RECORDS: usize = 192;
 
 const FEW_EXTERNALS_COLUMN: usize = 2 * FEW_RECORDS + 1;
 

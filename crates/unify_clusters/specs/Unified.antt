@@ -20,10 +20,10 @@ mostLinks = mostConnections + mostBoundaryOutputs
 
 -- so many have shorter arrays
 abbrev pub fewConnectors : ℕ
-fewConnectors = 64
+fewConnectors = 192
 
 abbrev pub fewLinks : ℕ
-fewLinks = 128
+fewLinks = 256
 
 -- what rule 6 adds to a list that holds e errors: 'If after all roots the list holds no error, every root is tested in turn: 8'
 unfoldable pub wholeRule6 : Model → ℕ → List Diagnostic

@@ -30,9 +30,9 @@ const MOST_MEMBERS: usize = MOST_LINKS + 1;
 const NO_LINK: usize = MOST_LINKS;
 
 // So many have shorter arrays, which are sooner cleared.
-const FEW_CONNECTORS: usize = 64;
+const FEW_CONNECTORS: usize = 192;
 
-const FEW_LINKS: usize = 128;
+const FEW_LINKS: usize = 256;
 
 const FEW_MEMBERS: usize = FEW_LINKS + 1;
 
