@@ -351,7 +351,8 @@ fn list_section(s: &[u8], f: Field, tag: usize, n: usize, table: &mut [usize]) -
                 next: g,
             };
         }
-        if s.len() < g.at + LEADING_BYTES + g.len {
+        let end = g.at + LEADING_BYTES + g.len;
+        if s.len() < end {
             return Sifted {
                 fine: false,
                 records: Section {
