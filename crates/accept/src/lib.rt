@@ -23,6 +23,7 @@ use oce_model::SHORTEST_IMAGE;
 use oce_model::TEXT_TAG;
 use sieve::is_faulty;
 use sieve::is_faulty_list;
+use sieve::other_faulty;
 ghost use mathlib.Core.Path.{_≡_};
 ghost use mathlib.Core.Option.{none};
 ghost use Prim.Native.Nat.{_+_, _<_, _≤_};
@@ -262,7 +263,7 @@ fn sift_head(s: &[u8], f: Field) -> Sifted
             next: f,
         };
     }
-    if is_faulty(0, s, f) {
+    if other_faulty(0, s, f) {
         return Sifted {
             fine: false,
             records: Section { start, count: 0 },
