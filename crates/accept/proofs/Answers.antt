@@ -104,6 +104,17 @@ module _ {s : List ℕ} {k : ℕ} (v : Refusing s k) where
 
 -- ---- refusals 1 to 3
 
+-- refusal 3 and those behind it
+later : (s : List ℕ) (o : Option ℕ) → shortestImage ≤ length s → length s ≤ longestImage → ltb (stop s) (length s) ≡ false → first badTag (fields s) ≡ o
+    → refusal s ≡ refusedAt 3 o (refusalsFrom 5 4 s (fields s))
+unfolding refusal refusalsFrom fault
+later s o g l h q = rw (le-ltb (length s) shortestImage g, le-ltb longestImage (length s) l, h, q)
+
+tagged-framing : {s : List ℕ} → shortestImage ≤ length s → Tagged s → Framing s
+tagged-framing {s} g v =
+    let e : length s ≤ stop s = omega (arith, v .ended .ends) in
+    record { tagged = v; same = later s none g (v .ended .short) (le-ltb (stop s) (length s) e) (v .tags) }
+
 module _ (s : List ℕ) where
   pub too-short : length s < shortestImage → Away 1 0 ≡ verdictOf (refusal s)
   unfolding refusal
@@ -146,16 +157,11 @@ module _ (s : List ℕ) where
           let p = cut-at h in
           sym (rw (le-ltb (length s) shortestImage g, le-ltb longestImage (length s) l, p .0, p .1))
 
-      -- refusal 3 and those behind it
-      later : {bad : Found} (o : Option ℕ) → r ≡ Whole bad → first badTag (fields s) ≡ o → refusal s ≡ refusedAt 3 o (refusalsFrom 5 4 s (fields s))
-      unfolding refusal refusalsFrom fault
-      later o h q = rw (le-ltb (length s) shortestImage g, le-ltb longestImage (length s) l, whole-bad h .0, q)
-
       pub refused-bad : {at : ℕ} {bad : Found} → r ≡ Whole bad → bad ≡ At at → Away 3 at ≡ verdictOf (refusal s)
-      refused-bad {at} h b = sym (ap verdictOf (later (some at) h (found-some (first badTag (fields s)) at (sym b ∙ whole-bad h .1))))
+      refused-bad {at} h b = sym (ap verdictOf (later s (some at) g l (whole-bad h .0) (found-some (first badTag (fields s)) at (sym b ∙ whole-bad h .1))))
 
       pub whole-framing : {bad : Found} → r ≡ Whole bad → bad ≡ Nothing → Framing s
-      whole-framing h b = record { tagged = whole-tagged h b l; same = later none h (found-none (first badTag (fields s)) (sym b ∙ whole-bad h .1)) }
+      whole-framing h b = tagged-framing g (whole-tagged h b l)
 
 -- ---- no field at fault
 
@@ -246,11 +252,10 @@ module _ (t : ℕ) (s table : List ℕ) where
 
 -- ---- the answer for an image with good tags
 
-module _ {s : List ℕ} (v : Framing s) where
-  module _ {r : Surveyed} (w : Surveys s r) where
-    pub survey-answer : r .fine ≡ true → Accepted (r .layout) ≡ acceptance s
-    survey-answer h = answer-accepted s (v .same ∙ clean-fields s (w .clean h)) (w .layout h)
+pub survey-answer : {s : List ℕ} {r : Surveyed} → Surveys s r → r .fine ≡ true → shortestImage ≤ length s → Accepted (r .layout) ≡ acceptance s
+survey-answer {s} w h g = answer-accepted s (tagged-framing g (w .tagged h) .same ∙ clean-fields s (w .clean h)) (w .layout h)
 
+module _ {s : List ℕ} (v : Framing s) where
   module _ {r : Verdict} (e : r ≡ verdictOf (refusalsFrom 5 4 s (fields s))) where
     away : {n at : ℕ} → r ≡ Away n at → Away n at ≡ verdictOf (refusal s)
     away h = sym h ∙ e ∙ sym (ap verdictOf (v .same))
@@ -264,8 +269,8 @@ module _ {s : List ℕ} (v : Framing s) where
     pub fields-accepted : r ≡ Fine → refusal s ≡ none
     fields-accepted h = v .same ∙ verdict-none (refusalsFrom 5 4 s (fields s)) (sym h ∙ e)
 
-pub survey-table : {t : ℕ} {s : List ℕ} {fine : Bool} {table : List ℕ} → Lists t s fine table → fine ≡ true → Listed t s table
-survey-table v h = record { listed = λ _. v .lists h }
+pub survey-table : {t : ℕ} {s : List ℕ} {r : Surveyed} {table : List ℕ} → Surveys s r → Lists t s (r .fine) table → r .fine ≡ true → Listed t s table
+survey-table w v h = record { listed = λ _. v .lists h (w .tagged h) }
 
 pub layout-table : (t : ℕ) (s table : List ℕ) {table′ : List ℕ} → table′ ≡ startsWith (offsetsOf t s) table → Listed t s table′
 layout-table t s table w = record { listed = λ _. tabled-own t s table w }

@@ -1,16 +1,17 @@
--- Passing the sections of an image once, as long as nothing is at fault under refusals 4 to 8.
+-- Passing the sections of an image once, as long as nothing is at fault under refusals 2 to 8. That the fields end with the image and have good
+-- tags is known only once all are passed: what is found on the way holds if they do (Tagged).
 -- Assumes nothing.
-use Prim.Native.Nat.{ℕ, _<_}
+use Prim.Native.Nat.{ℕ, _+_, _<_, _≤_}
 use mathlib.Core.Path.{_≡_}
 use mathlib.Core.Bool.{Bool, true}
 use mathlib.Core.List.{List}
 use mathlib.Core.Option.{none}
 use lib.ListN.{length}
-use Rattle.oce_model.specs.Format.{textTag}
+use Rattle.oce_model.specs.Format.{headTag, textTag, longestImage}
 use Rattle.oce_model.specs.Image.{fields, first, ofTag}
-use Rattle.oce_model.specs.Refusals.{refusal, refusalsFrom}
+use Rattle.oce_model.specs.Refusals.{badTag, refusal, refusalsFrom}
 use Rattle.oce_model.specs.declared.Field.{Field}
-use Rattle.framing.specs.Walk.{Walking}
+use Rattle.framing.specs.Walk.{Walking, start}
 use Rattle.sieve.specs.Faulty.{atFault}
 use Rattle.accept.specs.Layout.{Tabled, layoutOf}
 use Rattle.accept.specs.Sections.{Begins, Passed, Tagged, fixedOf}
@@ -22,7 +23,28 @@ use Rattle.accept.specs.declared.Surveyed.{Surveyed}
 abbrev pub faulty : List ℕ → Field → Bool
 faulty s f = atFault (length (ofTag textTag (fields s))) s f
 
+-- ---- good tags
+
+-- a head and fields with good tags up to t stand before f: rest is f and those behind it
+pub record Rising (t : ℕ) (s : List ℕ) (f : Field) : Type 0 where
+  pub rest : List Field
+  pub walk : Walking s f rest
+  pub same : first badTag (fields s) ≡ first badTag rest
+  pub behind : headTag < t
+  pub headed : headTag ≤ f .prev
+  pub rises : f .prev ≤ t
+  pub small : f .len < 65536
+  pub short : length s ≤ longestImage
+
 -- ---- before a section
+
+-- f is the first field
+pub record Leading (s : List ℕ) (f : Field) : Type 0 where
+  pub is : f ≡ start s
+  pub low : f .at ≡ 0
+  pub few : f .ord ≤ f .at
+  pub small : f .len < 65536
+  pub short : length s ≤ longestImage
 
 -- none of the fields before f is at fault: rest is f and those behind it
 pub record Quiet (s : List ℕ) (f : Field) : Type 0 where
@@ -36,8 +58,12 @@ pub record Entered (t n : ℕ) (s : List ℕ) (f : Field) : Type 0 where
   pub quiet : Quiet s f
   pub count : textTag < t → n ≡ length (ofTag textTag (fields s))
 
+pub record Entering (t n : ℕ) (s : List ℕ) (f : Field) : Type 0 where
+  pub rising : Rising t s f
+  pub entered : Tagged s → Entered t n s f
+
 pub record Ready (t n : ℕ) (s : List ℕ) (b : Sifted) : Type 0 where
-  pub ready : b .fine ≡ true → Entered t n s (b .next)
+  pub ready : b .fine ≡ true → Entering t n s (b .next)
 
 -- ---- behind it
 
@@ -47,26 +73,30 @@ pub record Clean (t : ℕ) (s : List ℕ) (r : Sifted) : Type 0 where
   pub quiet : Quiet s (r .next)
 
 pub record Sifts (t : ℕ) (s : List ℕ) (r : Sifted) : Type 0 where
-  pub clean : r .fine ≡ true → Clean t s r
+  pub rising : r .fine ≡ true → Rising (t + 1) s (r .next)
+  pub clean : r .fine ≡ true → Tagged s → Clean t s r
 
 -- r is behind the section of the tag t, and b before it
 pub record Follows (t : ℕ) (s : List ℕ) (b r : Sifted) : Type 0 where
   pub earlier : r .fine ≡ true → b .fine ≡ true
-  pub clean : r .fine ≡ true → Clean t s r
+  pub rising : r .fine ≡ true → Rising (t + 1) s (r .next)
+  pub clean : r .fine ≡ true → Tagged s → Clean t s r
 
 -- the table begins with the section's offsets
 pub record Lists (t : ℕ) (s : List ℕ) (fine : Bool) (table : List ℕ) : Type 0 where
-  pub lists : fine ≡ true → Tabled t s table
+  pub lists : fine ≡ true → Tagged s → Tabled t s table
 
 -- ---- the whole
 
 -- the sections of fixed sizes behind b: nothing of the image is at fault
 pub record Fixes (s : List ℕ) (b : Sifted) (r : Rest) : Type 0 where
   pub earlier : r .fine ≡ true → b .fine ≡ true
+  pub tagged : r .fine ≡ true → Tagged s
   pub fixed : r .fine ≡ true → r .fixed ≡ fixedOf s
   pub clean : r .fine ≡ true → first (faulty s) (fields s) ≡ none
 
 pub record Surveys (s : List ℕ) (r : Surveyed) : Type 0 where
+  pub tagged : r .fine ≡ true → Tagged s
   pub layout : r .fine ≡ true → r .layout ≡ layoutOf s
   pub clean : r .fine ≡ true → first (faulty s) (fields s) ≡ none
 

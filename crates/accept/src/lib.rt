@@ -15,6 +15,7 @@ use oce_model::CONNECTOR_TAG;
 use oce_model::EXTERNAL_INPUT_TAG;
 use oce_model::Field;
 use oce_model::HEAD_TAG;
+use oce_model::LEADING_BYTES;
 use oce_model::LONGEST_IMAGE;
 use oce_model::MOST_BLOCKS;
 use oce_model::MOST_TEXTS;
@@ -22,17 +23,18 @@ use oce_model::SHORTEST_IMAGE;
 use oce_model::TEXT_TAG;
 use sieve::is_faulty;
 use sieve::is_faulty_list;
+use sieve::other_faulty;
 ghost use mathlib.Core.Path.{_≡_};
 ghost use mathlib.Core.Option.{none};
 ghost use Prim.Native.Nat.{_+_, _<_, _≤_};
 ghost use lib.ListN.{length};
 ghost use Rattle.base.specs.Buffers.{startsWith};
-ghost use Rattle.oce_model.specs.Format.{textTag, blockTag, connectorTag, most};
+ghost use Rattle.oce_model.specs.Format.{headTag, textTag, blockTag, connectorTag, highestTag, most, shortestImage, longestImage};
 ghost use Rattle.oce_model.specs.Image.{fields, ofTag};
 ghost use Rattle.oce_model.specs.Refusals.{refusal, refusalsFrom};
 ghost use Rattle.accept.specs.Layout.{layoutOf, offsetsOf, acceptance, Listed};
 ghost use Rattle.accept.specs.Sections.{Tagged, Begins, Passed, fixedOf, verdictOf};
-ghost use Rattle.accept.specs.Sifting.{Entered, Sifts, Lists, Ready, Follows, Fixes, Surveys, Framing};
+ghost use Rattle.accept.specs.Sifting.{Leading, Entering, Sifts, Lists, Ready, Follows, Fixes, Surveys, Framing};
 
 // Where the records of a tag begin, and how many there are.
 pub struct Section {
@@ -241,10 +243,45 @@ struct Sifted {
     pub next: Field,
 }
 
-// Passes the section of a tag, which begins at f, up to a field that is at fault; n is the number of
-// texts, for the tags behind texts.
+// Passes the head, where the first field f is one.
+fn sift_head(s: &[u8], f: Field) -> Sifted
+    requires { ⌜ Leading (now s) f ⌝ }
+    ensures { λ r. ⌜ Sifts headTag (now (s .entry)) r ⌝ }
+{
+    let start = f.at;
+    if f.tag != HEAD_TAG {
+        return Sifted {
+            fine: false,
+            records: Section { start, count: 0 },
+            next: f,
+        };
+    }
+    if s.len() < f.at + LEADING_BYTES + f.len {
+        return Sifted {
+            fine: false,
+            records: Section { start, count: 0 },
+            next: f,
+        };
+    }
+    if other_faulty(0, s, f) {
+        return Sifted {
+            fine: false,
+            records: Section { start, count: 0 },
+            next: f,
+        };
+    }
+    Sifted {
+        fine: true,
+        records: Section { start, count: 1 },
+        next: next_field(s, f),
+    }
+}
+
+// Passes the section of a tag, which begins at f, up to a field that runs past the image's end or is at
+// fault; n is the number of texts, for the tags behind texts.
 fn sift_section(s: &[u8], f: Field, tag: usize, n: usize) -> Sifted
-    requires { ⌜ Entered tag n (now s) f ⌝ }
+    requires { ⌜ Entering tag n (now s) f ⌝ }
+    requires { ⌜ tag ≤ highestTag ⌝ }
     ensures { λ r. ⌜ Sifts tag (now (s .entry)) r ⌝ }
 {
     let start = f.at;
@@ -254,6 +291,16 @@ fn sift_section(s: &[u8], f: Field, tag: usize, n: usize) -> Sifted
         if g.tag != tag {
             return Sifted {
                 fine: true,
+                records: Section {
+                    start,
+                    count: passed,
+                },
+                next: g,
+            };
+        }
+        if s.len() < g.at + LEADING_BYTES + g.len {
+            return Sifted {
+                fine: false,
                 records: Section {
                     start,
                     count: passed,
@@ -286,7 +333,8 @@ fn sift_section(s: &[u8], f: Field, tag: usize, n: usize) -> Sifted
 
 // The same, with the offset of each field put into a table, up to the table's end.
 fn list_section(s: &[u8], f: Field, tag: usize, n: usize, table: &mut [usize]) -> Sifted
-    requires { ⌜ Entered tag n (now s) f ⌝ }
+    requires { ⌜ Entering tag n (now s) f ⌝ }
+    requires { ⌜ tag ≤ highestTag ⌝ }
     ensures sifts { λ r. ⌜ Sifts tag (now (s .entry)) r ⌝ }
     ensures table { λ r. ⌜ Lists tag (now (s .entry)) (r .fine) (now (table .exit)) ⌝ }
 {
@@ -297,6 +345,17 @@ fn list_section(s: &[u8], f: Field, tag: usize, n: usize, table: &mut [usize]) -
         if g.tag != tag {
             return Sifted {
                 fine: true,
+                records: Section {
+                    start,
+                    count: listed,
+                },
+                next: g,
+            };
+        }
+        let end = g.at + LEADING_BYTES + g.len;
+        if s.len() < end {
+            return Sifted {
+                fine: false,
                 records: Section {
                     start,
                     count: listed,
@@ -341,7 +400,7 @@ fn list_section(s: &[u8], f: Field, tag: usize, n: usize, table: &mut [usize]) -
 // The section behind one that was passed; what is behind a fault isn't looked at.
 fn sift_on(s: &[u8], before: Sifted, tag: usize, n: usize) -> Sifted
     requires { ⌜ Ready tag n (now s) before ⌝ }
-    requires { ⌜ textTag < tag ⌝ }
+    requires { ⌜ (textTag < tag) × (tag ≤ highestTag) ⌝ }
     ensures follows { λ r. ⌜ Follows tag (now (s .entry)) before r ⌝ }
     ensures ready { λ r. ⌜ Ready (tag + 1) n (now (s .entry)) r ⌝ }
 {
@@ -353,6 +412,7 @@ fn sift_on(s: &[u8], before: Sifted, tag: usize, n: usize) -> Sifted
 
 fn list_on(s: &[u8], before: Sifted, tag: usize, n: usize, table: &mut [usize]) -> Sifted
     requires { ⌜ Ready tag n (now s) before ⌝ }
+    requires { ⌜ tag ≤ highestTag ⌝ }
     ensures follows { λ r. ⌜ Follows tag (now (s .entry)) before r ⌝ }
     ensures table { λ r. ⌜ Lists tag (now (s .entry)) (r .fine) (now (table .exit)) ⌝ }
 {
@@ -402,12 +462,12 @@ struct Surveyed {
 }
 
 fn survey(s: &[u8], texts: &mut [usize], blocks: &mut [usize]) -> Surveyed
-    requires { ⌜ Tagged (now s) ⌝ }
+    requires { ⌜ length (now s) ≤ longestImage ⌝ }
     ensures surveys { λ r. ⌜ Surveys (now (s .entry)) r ⌝ }
     ensures texts { λ r. ⌜ Lists textTag (now (s .entry)) (r .fine) (now (texts .exit)) ⌝ }
     ensures blocks { λ r. ⌜ Lists blockTag (now (s .entry)) (r .fine) (now (blocks .exit)) ⌝ }
 {
-    let head = sift_section(s, first_field(s), HEAD_TAG, 0);
+    let head = sift_head(s, first_field(s));
     let texts = list_on(s, head, TEXT_TAG, 0, texts);
     let listed = texts.records;
     let n = listed.count;
@@ -456,25 +516,34 @@ fn decide(s: &[u8], texts: &mut [usize], blocks: &mut [usize]) -> Acceptance
     }
 }
 
-// The same in one pass, where nothing is at fault.
-fn accept_fields(s: &[u8], texts: &mut [usize], blocks: &mut [usize]) -> Acceptance
-    requires { ⌜ Framing (now s) ⌝ }
+// The answer for an image of a good length, refusal by refusal.
+fn try_refusals(s: &[u8], texts: &mut [usize], blocks: &mut [usize]) -> Acceptance
+    requires { ⌜ (shortestImage ≤ length (now s)) × (length (now s) ≤ longestImage) ⌝ }
     requires { ⌜ most textTag ≤ length (now texts) ⌝ }
     requires { ⌜ most blockTag ≤ length (now blocks) ⌝ }
     ensures answer { λ r. ⌜ r ≡ acceptance (now (s .entry)) ⌝ }
     ensures texts { λ _. ⌜ Listed textTag (now (s .entry)) (now (texts .exit)) ⌝ }
     ensures blocks { λ _. ⌜ Listed blockTag (now (s .entry)) (now (blocks .exit)) ⌝ }
 {
-    let found = survey(s, texts, blocks);
-    if found.fine {
-        let layout = found.layout;
-        return Acceptance::Accepted(layout);
+    let framed = frame(s);
+    match framed {
+        Framed::Cut(at) => Acceptance::Refused {
+            number: 2,
+            at: at as u32,
+        },
+        Framed::Whole(bad) => match bad {
+            Found::At(at) => Acceptance::Refused {
+                number: 3,
+                at: at as u32,
+            },
+            Found::Nothing => decide(s, texts, blocks),
+        },
     }
-    decide(s, texts, blocks)
 }
 
 // Answers with the layout of an accepted image, and puts the offsets of its texts and blocks into the
-// tables; or with the first refusal that applies, and the tables then hold anything.
+// tables; or with the first refusal that applies, and the tables then hold anything. An image with
+// nothing at fault takes one pass.
 pub fn accept(
     image: &[u8],
     texts: &mut [usize; MOST_TEXTS],
@@ -490,18 +559,10 @@ pub fn accept(
     if LONGEST_IMAGE < image.len() {
         return Acceptance::Refused { number: 1, at: 0 };
     }
-    let framed = frame(image);
-    match framed {
-        Framed::Cut(at) => Acceptance::Refused {
-            number: 2,
-            at: at as u32,
-        },
-        Framed::Whole(bad) => match bad {
-            Found::At(at) => Acceptance::Refused {
-                number: 3,
-                at: at as u32,
-            },
-            Found::Nothing => accept_fields(image, texts, blocks),
-        },
+    let found = survey(image, texts, blocks);
+    if found.fine {
+        let layout = found.layout;
+        return Acceptance::Accepted(layout);
     }
+    try_refusals(image, texts, blocks)
 }

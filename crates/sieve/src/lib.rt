@@ -139,8 +139,8 @@ fn block_faulty(n: usize, s: &[u8], f: Field) -> bool
     bad_ports(len, inputs, outputs) | too_many(f) | bad_or_none(n, read16(s, at + 7))
 }
 
-// Any field, one refusal after the other.
-fn other_faulty(n: usize, s: &[u8], f: Field) -> bool
+// Any field, one refusal after the other; for the head, which stands once.
+pub fn other_faulty(n: usize, s: &[u8], f: Field) -> bool
     requires { ⌜ f .at ≤ longestImage ⌝ }
     ensures { λ r. ⌜ r ≡ atFault n (now (s .entry)) f ⌝ }
 {

@@ -4,7 +4,7 @@ use Prim.Native.Nat.{_-_}
 use lib.ListN.{length}
 use borrow.Author.Needs.{needs}
 use Rattle.framing.proofs.Walks.{walk-less}
-use Rattle.accept.proofs.Sifts.{sieving-fits, sieving-room, sieving-past, sieving-end, sieving-fault, Listing, listing-start, listing-turn, listing-past, listing-end, listing-fault}
+use Rattle.accept.proofs.Sifts.{sieving-past, sieving-end, sieving-fault, Listing, listing-start, listing-turn, listing-past, listing-end, listing-fault}
 use Rattle.accept.proofs.list_section.Statement.{statement}
 use Rattle.accept.proofs.list_section.Tie as tie
 
@@ -23,7 +23,11 @@ list-section-spec =
     (λ c. search (listing-start, needs))
     (λ c. search needs)
     (λ c. search (sieving-past, listing-past, needs))
-    (λ c κs. search (sieving-fits, needs))
+    (λ c. search needs)
+    (λ c. search needs)
+    (λ c. search needs)
+    (λ c. search (sieving-fault, listing-fault, needs))
+    (λ c κs. search needs)
     (λ c. search needs)
     (λ c. search (sieving-fault, listing-fault, needs))
     (λ c. search needs)
@@ -31,7 +35,7 @@ list-section-spec =
     (λ c. search needs)
     (λ c. search needs)
     (λ c. search needs)
-    (λ c κs. search (sieving-room, needs))
+    (λ c κs. search needs)
     (λ c. search (walk-less, needs))
     (λ c. search (listing-turn, needs))
     (λ c. search needs)

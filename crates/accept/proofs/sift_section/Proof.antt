@@ -4,7 +4,7 @@ use Prim.Native.Nat.{_-_}
 use lib.ListN.{length}
 use borrow.Author.Needs.{needs}
 use Rattle.framing.proofs.Walks.{walk-less}
-use Rattle.accept.proofs.Sifts.{Sieving, sieving-start, sieving-fits, sieving-room, sieving-turn, sieving-past, sieving-end, sieving-fault}
+use Rattle.accept.proofs.Sifts.{Sieving, sieving-start, sieving-turn, sieving-past, sieving-end, sieving-fault}
 use Rattle.accept.proofs.sift_section.Statement.{statement}
 use Rattle.accept.proofs.sift_section.Tie as tie
 
@@ -22,10 +22,13 @@ sift-section-spec =
     μ-loop
     (λ c. search (sieving-start, needs))
     (λ c. search (sieving-past, needs))
-    (λ c κs. search (sieving-fits, needs))
+    (λ c. search needs)
+    (λ c. search needs)
+    (λ c. search (sieving-fault, needs))
+    (λ c κs. search needs)
     (λ c. search (sieving-fault, needs))
     (λ c. search needs)
-    (λ c κs. search (sieving-room, needs))
+    (λ c κs. search needs)
     (λ c. search (walk-less, needs))
     (λ c. search (sieving-turn, needs))
     (λ c. search (sieving-end, needs)))

@@ -1,7 +1,7 @@
 -- `accept::survey` meets its contract: head, texts and blocks, then the sections of fixed sizes.
 -- Assumes nothing.
 use borrow.Author.Needs.{needs}
-use Rattle.accept.proofs.Sifts.{entered-first, ready-texts, ready-blocks, ready-next, lists-texts, lists-blocks, surveys}
+use Rattle.accept.proofs.Sifts.{leading-first, ready-texts, ready-blocks, ready-next, lists-texts, lists-blocks, surveys}
 use Rattle.accept.proofs.survey.Statement.{statement}
 use Rattle.accept.proofs.survey.Tie as tie
 
@@ -10,7 +10,7 @@ survey-spec =
     tie.close
     (tie.spec
     (λ c κs. search needs)
-    (λ c κs. search (entered-first, needs))
+    (λ c κs. search (leading-first, needs))
     (λ c κs. search (ready-texts, needs))
     (λ c κs. search (ready-blocks, needs))
     (λ c κs. search (ready-next, ready-blocks, needs))

@@ -1,0 +1,19 @@
+-- `accept::sift_head` meets its contract: the first field is a head, and isn't at fault.
+-- Assumes nothing.
+use borrow.Author.Needs.{needs}
+use Rattle.accept.proofs.Sifts.{head-sifts, sieving-fault}
+use Rattle.accept.proofs.sift_head.Statement.{statement}
+use Rattle.accept.proofs.sift_head.Tie as tie
+
+pub sift-head-spec : {M : Type 1} → statement M
+sift-head-spec =
+    tie.close
+    (tie.spec
+    (λ c. search (sieving-fault, needs))
+    (λ c. search needs)
+    (λ c. search needs)
+    (λ c. search (sieving-fault, needs))
+    (λ c κs. search needs)
+    (λ c. search (sieving-fault, needs))
+    (λ c κs. search needs)
+    (λ c. search (head-sifts, needs)))
