@@ -1,6 +1,6 @@
 -- Laws of the loops that pass a section as long as nothing is at fault, and of the sections one after the other.
 -- Assumes nothing.
-use Prim.Native.Nat.{ℕ, zero, suc, _+_, _-_, _<_, _≤_}
+use Prim.Native.Nat.{ℕ, zero, suc, _+_, _<_, _≤_}
 use native.Mathlib.Decide.{decLt}
 use native.Mathlib.Omega.{arith}
 use mathlib.Core.Logic.{_≢_}
@@ -135,6 +135,7 @@ sieved-turn {t} {n} {s} {count} {f} v h tag a u e = record {
   knows = v .knows;
 }
 
+-- the same in an image of which the end isn't known yet
 pub record Sieving (t n : ℕ) (s : List ℕ) (count : ℕ) (f : Field) : Type 0 where
   pub rising : Rising t s f
   pub few : count ≤ f .at

@@ -58,6 +58,7 @@ pub record Entered (t n : ℕ) (s : List ℕ) (f : Field) : Type 0 where
   pub quiet : Quiet s f
   pub count : textTag < t → n ≡ length (ofTag textTag (fields s))
 
+-- the same in an image of which the end isn't known yet
 pub record Entering (t n : ℕ) (s : List ℕ) (f : Field) : Type 0 where
   pub rising : Rising t s f
   pub entered : Tagged s → Entered t n s f
