@@ -5,6 +5,7 @@ use framing::first_fault;
 use framing::first_field;
 use framing::frame;
 use framing::next_field;
+use framing::runs_past;
 use numbers::at64;
 use numbers::int_of_bits;
 use oce_model::BLOCK_TAG;
@@ -15,7 +16,6 @@ use oce_model::CONNECTOR_TAG;
 use oce_model::EXTERNAL_INPUT_TAG;
 use oce_model::Field;
 use oce_model::HEAD_TAG;
-use oce_model::LEADING_BYTES;
 use oce_model::LONGEST_IMAGE;
 use oce_model::MOST_BLOCKS;
 use oce_model::MOST_TEXTS;
@@ -256,7 +256,7 @@ fn sift_head(s: &[u8], f: Field) -> Sifted
             next: f,
         };
     }
-    if s.len() < f.at + LEADING_BYTES + f.len {
+    if runs_past(s, f) {
         return Sifted {
             fine: false,
             records: Section { start, count: 0 },
@@ -298,7 +298,7 @@ fn sift_section(s: &[u8], f: Field, tag: usize, n: usize) -> Sifted
                 next: g,
             };
         }
-        if s.len() < g.at + LEADING_BYTES + g.len {
+        if runs_past(s, g) {
             return Sifted {
                 fine: false,
                 records: Section {
@@ -352,8 +352,7 @@ fn list_section(s: &[u8], f: Field, tag: usize, n: usize, table: &mut [usize]) -
                 next: g,
             };
         }
-        let end = g.at + LEADING_BYTES + g.len;
-        if s.len() < end {
+        if runs_past(s, g) {
             return Sifted {
                 fine: false,
                 records: Section {

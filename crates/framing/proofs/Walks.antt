@@ -6,10 +6,11 @@ use native.Mathlib.Omega.{arith}
 use mathlib.Core.Path.{_≡_, refl, sym, _∙_}
 use mathlib.Core.Bool.{Bool, true, false, cond}
 use mathlib.Core.List.{List, [], _∷_}
-use lib.Dec.{leb, eqb}
+use lib.Dec.{leb, ltb, eqb}
 use lib.ListN.{length}
-use borrow.Author.Tests.{leb-true, le-leb, lt-leb}
+use borrow.Author.Tests.{leb-true, le-leb, lt-leb, ltb-true, ltb-false}
 use Rattle.numbers.specs.Bytes.{byte}
+use Rattle.oce_model.specs.Format.{longestImage}
 use Rattle.oce_model.specs.Image.{fieldAt, fieldEnd, fields, fieldsFrom, ordOf, stop, stopFrom}
 use Rattle.oce_model.specs.declared.Field.{Field}
 use Rattle.framing.specs.Walk.{Walking, after, endOf, from, placed, start, stops}
@@ -121,3 +122,15 @@ module _ {s : List ℕ} {f : Field} {rest : List Field} (w : Walking s f rest) w
       go : (k : ℕ) → from k s f ≡ []
       go zero = refl
       go (suc k) = let l : length s < endOf f = omega arith in rw (lt-leb (endOf f) (length s) l)
+
+-- ---- a field that runs past the end, or doesn't, as code tests it
+
+module _ (s : List ℕ) (f : Field) {r : Bool} (e : r ≡ ltb (length s) (endOf f)) where
+  pub past-end : r ≡ true → length s < endOf f
+  past-end h = ltb-true (length s) (endOf f) (sym e ∙ h)
+
+  pub within-end : r ≡ false → endOf f ≤ length s
+  within-end h = ltb-false (length s) (endOf f) (sym e ∙ h)
+
+  pub within-longest : r ≡ false → length s ≤ longestImage → endOf f ≤ longestImage
+  within-longest h l = let w = within-end h in omega arith

@@ -10,6 +10,7 @@ use oce_model::Field;
 use oce_model::LEADING_BYTES;
 ghost use mathlib.Core.Path.{_≡_};
 ghost use Prim.Native.Nat.{_<_, _≤_};
+ghost use lib.Dec.{ltb};
 ghost use lib.ListN.{length};
 ghost use Rattle.oce_model.specs.Format.{longestImage};
 ghost use Rattle.oce_model.specs.Image.{ordOf, fields, first};
@@ -82,6 +83,14 @@ pub fn next_field(s: &[u8], f: Field) -> Field
 
 // ---- framing
 
+// Refusal 2: the field's leading bytes or its contents run past the image's end.
+pub fn runs_past(s: &[u8], f: Field) -> bool
+    requires { ⌜ (f .at ≤ longestImage) × (f .len < 65536) ⌝ }
+    ensures { λ r. ⌜ r ≡ ltb (length (now (s .entry))) (endOf f) ⌝ }
+{
+    s.len() < f.at + LEADING_BYTES + f.len
+}
+
 // What was found before f, or f where its tag is bad.
 fn first_of(bad: Found, f: Field) -> Found
     ensures { λ r. ⌜ r ≡ firstOf bad f ⌝ }
@@ -105,7 +114,7 @@ pub fn frame(s: &[u8]) -> Framed
     let mut bad = Found::Nothing;
     let mut f = first_field(s);
     while f.at < s.len() {
-        if s.len() < f.at + LEADING_BYTES + f.len {
+        if runs_past(s, f) {
             return Framed::Cut(f.at);
         }
         bad = first_of(bad, f);

@@ -1,6 +1,7 @@
 -- `accept::sift_head` meets its contract: the first field is a head, and isn't at fault.
 -- Assumes nothing.
 use borrow.Author.Needs.{needs}
+use Rattle.framing.proofs.Walks.{within-end, within-longest}
 use Rattle.accept.proofs.Sifts.{head-sifts, sieving-fault}
 use Rattle.accept.proofs.sift_head.Statement.{statement}
 use Rattle.accept.proofs.sift_head.Tie as tie
@@ -10,10 +11,9 @@ sift-head-spec =
     tie.close
     (tie.spec
     (λ c. search (sieving-fault, needs))
-    (λ c. search needs)
-    (λ c. search needs)
-    (λ c. search (sieving-fault, needs))
     (λ c κs. search needs)
     (λ c. search (sieving-fault, needs))
-    (λ c κs. search needs)
-    (λ c. search (head-sifts, needs)))
+    (λ c κs. search (within-end, needs))
+    (λ c. search (sieving-fault, needs))
+    (λ c κs. search (within-longest, needs))
+    (λ c. search (head-sifts, within-end, needs)))

@@ -3,7 +3,7 @@
 use Prim.Native.Nat.{_-_}
 use lib.ListN.{length}
 use borrow.Author.Needs.{needs}
-use Rattle.framing.proofs.Walks.{walk-less}
+use Rattle.framing.proofs.Walks.{within-end, within-longest, walk-less}
 use Rattle.accept.proofs.Sifts.{Sieving, sieving-start, sieving-turn, sieving-past, sieving-end, sieving-fault}
 use Rattle.accept.proofs.sift_section.Statement.{statement}
 use Rattle.accept.proofs.sift_section.Tie as tie
@@ -22,13 +22,16 @@ sift-section-spec =
     μ-loop
     (λ c. search (sieving-start, needs))
     (λ c. search (sieving-past, needs))
-    (λ c. search needs)
-    (λ c. search needs)
-    (λ c. search (sieving-fault, needs))
     (λ c κs. search needs)
     (λ c. search (sieving-fault, needs))
+    (λ c κs. (within-end (c .before .before .before .before .before .before .before .before .args .s .now) (c .before .before .before .before .before .before .loop .g) (c .before .runs-past .ensures) (c .if3 .left), c .before .before .before .before .before .before .loop .inv .rising .short))
+    (λ c. search (sieving-fault, needs))
     (λ c. search needs)
-    (λ c κs. search needs)
+    (λ c κs.
+    let inv = c .before .before .before .before .before .before .before .before .loop .inv in
+    (within-longest (c .before .before .before .before .before .before .before .before .before .before .args .s .now) (c .before .before .before .before .before .before .before .before .loop .g) (c .before .before .before .runs-past .ensures) (c .before .before .if3 .left) (inv .rising .short), inv .rising .walk .few))
     (λ c. search (walk-less, needs))
-    (λ c. search (sieving-turn, needs))
+    (λ c.
+    let inside = within-end (c .before .before .before .before .before .before .before .before .before .before .before .args .s .now) (c .before .before .before .before .before .before .before .before .before .loop .g) (c .before .before .before .before .runs-past .ensures) (c .before .before .before .if3 .left) in
+    sieving-turn (c .before .before .before .before .before .before .before .before .before .loop .inv) (c .before .before .before .before .before .before .before .before .before .before .before .pre .1) (c .before .before .before .before .before .before .before .if1 .taken) (c .before .before .before .before .before .if2 .left) inside (c .before .before .is-faulty .ensures) (c .before .if4 .left) (c .next-field .ensures .0) (c .next-field .ensures .1))
     (λ c. search (sieving-end, needs)))

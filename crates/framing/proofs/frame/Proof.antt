@@ -4,7 +4,7 @@ use Prim.Native.Nat.{_-_}
 use lib.ListN.{length}
 use borrow.Author.Needs.{needs}
 use Rattle.framing.proofs.Finds.{Framing, framing-start, framing-turn, framing-cut, framing-whole}
-use Rattle.framing.proofs.Walks.{walk-less}
+use Rattle.framing.proofs.Walks.{past-end, within-end, within-longest, walk-less}
 use Rattle.framing.proofs.frame.Statement.{statement}
 use Rattle.framing.proofs.frame.Tie as tie
 
@@ -22,11 +22,10 @@ frame-spec =
     μ-loop
     (λ c κs. search needs)
     (λ c. search (framing-start, needs))
-    (λ c. search needs)
-    (λ c. search needs)
-    (λ c. search (framing-cut, needs))
     (λ c κs. search needs)
+    (λ c. search (framing-cut, past-end, needs))
     (λ c κs. search needs)
+    (λ c κs. search (within-longest, needs))
     (λ c. search (walk-less, needs))
-    (λ c. search (framing-turn, needs))
+    (λ c. search (framing-turn, within-end, needs))
     (λ c. search (framing-whole, needs)))
