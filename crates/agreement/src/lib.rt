@@ -1,9 +1,9 @@
 // Whether what a check leaves agrees with a stored answer of the oracle, as docs/STORED_ANSWERS.md has
 // them.
-use accept::Acceptance;
-use accept::Layout;
-use accept::Section;
-use accept::accept;
+use image_accept::Acceptance;
+use image_accept::Layout;
+use image_accept::Section;
+use image_accept::accept;
 use base::copy_at;
 use base::part_of;
 use numbers::at16;
@@ -25,9 +25,10 @@ use stored::Record;
 use subject::LEAST_SCRATCH;
 use subject::subject;
 use subject::write_subject;
-use texts::same_bytes;
+use image_texts::same_bytes;
 ghost use Prim.Native.Nat.{_≤_, _<_};
 ghost use lib.ListN.{length};
+ghost use Rattle.numbers.specs.Bytes.{wordRange};
 
 // The most bytes that a report of a stored image has.
 const LONGEST_REPORT: usize = 131072;
@@ -181,7 +182,7 @@ fn attrs_at(section: Section, i: usize, ahead: usize) -> usize {
 }
 
 fn filled_at(layout: Layout, tag: usize, i: usize) -> usize
-    requires { ⌜ i < 4294967296 ⌝ }
+    requires { ⌜ i < wordRange ⌝ }
 {
     if tag == CONNECTOR_TAG {
         return attrs_at(layout.connectors, i, CONNECTOR_SIZE * i + CONNECTOR_ATTRS);

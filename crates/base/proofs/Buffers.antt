@@ -1,5 +1,4 @@
 -- Laws of a buffer that bytes are put into: its length, its bytes, and one patch behind another.
--- Assumes nothing.
 use mathlib.Core.Path.{_≡_, refl, _∙_}
 use mathlib.Core.List.{List, [], _++_, append-assoc, append-nil}
 use Prim.Native.Nat.{ℕ, _+_, _-_, _≤_, _<_}

@@ -1,5 +1,4 @@
 -- Laws of the lists and tests that are made index by index: one step more, two parts, the same below n, and what a test that passes says.
--- Assumes nothing.
 use mathlib.Core.Path.{_≡_, refl, sym, ap, _∙_}
 use mathlib.Core.Logic.{_≢_}
 use mathlib.Core.Bool.{Bool, true, false, _&&_, _||_, cond, false≢true, and-assoc, or-assoc}

@@ -1,5 +1,4 @@
 -- Members of lists, and what is found by counting: elements by index, members of the lists that are made index by index, and indices that a test passes at.
--- Assumes nothing.
 use Prim.Native.Nat.{ℕ, zero, suc, _+_, _≤_, _<_}
 use native.Mathlib.Decide.{ℕ-discrete}
 use native.Mathlib.Omega.{arith}

@@ -1,5 +1,4 @@
 -- Regions of one size that don't overlap, patched one after the other: each then holds its bytes, and the bytes outside are as they were.
--- Assumes nothing.
 use Prim.Native.Nat.{ℕ, zero, suc, _+_, _≤_, _<_}
 use native.Mathlib.Decide.{ℕ-discrete}
 use native.Mathlib.Omega.{arith}

@@ -1,5 +1,4 @@
 -- What a call leaves in a lent buffer.
--- Assumes nothing.
 use Prim.Native.Nat.{ℕ, _+_}
 use mathlib.Core.List.{List, _++_}
 use lib.ListN.{length, take, drop}

@@ -1,5 +1,4 @@
 -- Every definition of this crate and of those below it, opened: a claim that is `unfolding computed` computes.
--- Assumes nothing.
 use Prim.Native.Nat.{ℕ}
 use Rattle.base.specs.Lists.{each, steps, keep, any, all, tally, below, same}
 use Rattle.base.specs.Buffers.{patch, startsWith}

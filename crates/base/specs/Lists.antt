@@ -1,5 +1,4 @@
 -- Lists that are made index by index, from 0 up, so that what stands after index i is what stood before it and one step more: the shape of a loop.
--- Assumes nothing.
 use Prim.Native.Nat.{ℕ, zero, suc, _+_}
 use mathlib.Core.Bool.{Bool, true, false, _&&_, _||_, cond}
 use mathlib.Core.List.{List, [], _∷_, _++_}

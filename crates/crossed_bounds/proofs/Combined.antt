@@ -1,5 +1,4 @@
 -- The combined range of several members holds exactly the values that lie in every member's range; it is there exactly if all have an uncrossed range and one kind.
--- Assumes nothing.
 use Prim.Native.Nat.{ℕ}
 use mathlib.Core.Path.{_≡_, refl, sym, ap₂, _∙_}
 use mathlib.Core.Bool.{Bool, true, false, cond, _&&_, and-true, and-false, and-self}

@@ -1,5 +1,4 @@
 -- Rule 5.4 of the model of an image: a group is reported exactly if it counts and no value lies in every range.
--- Assumes nothing.
 use Prim.Native.Nat.{ℕ, suc, _-_, _<_, _^_}
 use native.Mathlib.Decide.{decLt}
 use native.Mathlib.Omega.{arith}

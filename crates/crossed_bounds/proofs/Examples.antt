@@ -1,5 +1,4 @@
 -- What rule 5 reports of the models, in their order.
--- Assumes nothing.
 use Prim.Native.Nat.{ℕ}
 use mathlib.Core.Path.{_≡_, refl}
 use mathlib.Core.List.{List, [], _∷_, map}

@@ -1,5 +1,4 @@
 -- What rule 5.4's combined range says: of ranges whose ends are numbers of their kind it is crossed exactly if all are uncrossed, of one kind, and no value lies in every range.
--- Assumes nothing.
 use Prim.Native.Nat.{ℕ}
 use mathlib.Core.Path.{_≡_, refl, sym, _∙_}
 use mathlib.Core.Bool.{Bool, true, false, _&&_, _||_, false≢true, true≢false}

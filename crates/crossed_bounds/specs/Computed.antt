@@ -1,5 +1,4 @@
 -- Every definition of this crate and of those below it, opened: a claim that is `unfolding computed` computes.
--- Assumes nothing.
 use Prim.Native.Nat.{ℕ}
 use Rattle.structural.specs.Computed.{computed as computedBelow}
 use Rattle.crossed_bounds.specs.Ranges.{finiteEnd, endOf, realRange, integerRange, rangeOf, crossedEnds, crossedBounds, crossed, higher, lower, higherInteger, lowerInteger, intersect, uncrossed, takeIn, takeInAll, combined}

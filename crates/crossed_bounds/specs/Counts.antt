@@ -1,6 +1,5 @@
 -- Rule 5.4 in document 01's words: 'A group counts if a member connector's id is external, it has two or more members, all have an uncrossed range and one kind.
 -- It is reported exactly if no value lies in every range'.
--- Assumes nothing.
 use Prim.Native.Nat.{ℕ}
 use mathlib.Core.Path.{_≡_}
 use mathlib.Core.Bool.{Bool, true, false, not, _&&_, _||_}

@@ -1,5 +1,4 @@
 -- Members grouped by equal bytes of their keys, groups in byte order of the key: the `BTreeMap` of `check_combined_input_domains`, as a list.
--- Assumes nothing.
 use Prim.Native.Nat.{ℕ}
 use mathlib.Core.Bool.{cond}
 use mathlib.Core.List.{List, [], _∷_, _++_}

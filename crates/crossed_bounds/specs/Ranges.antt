@@ -1,6 +1,5 @@
 -- The range of an attribute set, and when it is crossed. Document 01, rule 5: 'A range is crossed when min is above max; a Real with an unset end isn't crossed,
 -- a Real with a non-finite end has no range, an unset Integer end is the default'.
--- Assumes nothing.
 use Prim.Native.Nat.{ℕ}
 use mathlib.Core.Bool.{Bool, true, false, cond, _&&_}
 use mathlib.Core.List.{List, [], _∷_}

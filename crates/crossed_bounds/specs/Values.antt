@@ -1,7 +1,6 @@
 -- Values, and which of them are of a type and lie in a range. Document 01, 'The model image': 'A value is, in that order of types, a finite binary64 number, a signed
 -- 64 bit number, a truth value, a byte string, or an Enum's class with any 4-byte number. Ranges are those of rule 5, compared by number; an unset Real end doesn't limit,
 -- and where there is no range every value lies inside. Of a boundary output's type only the kind is asked'.
--- Assumes nothing.
 use Prim.Native.Nat.{ℕ, _^_}
 use mathlib.Core.Bool.{Bool, true, false, _&&_}
 use mathlib.Core.List.{List}

@@ -1,5 +1,4 @@
 -- What the functions over one member return, and what their loops leave.
--- Assumes nothing.
 use Prim.Native.Nat.{ℕ, _+_, _-_, _%_, _≤_, _<_}
 use native.Mathlib.Decide.{ℕ-discrete}
 use native.Mathlib.Numerals.{add-one}
@@ -17,7 +16,7 @@ use Rattle.base.proofs.Lists.{each-next, each-same, length-tab, getD-tab, steps
 use Rattle.numbers.specs.Bytes.{le64}
 use Rattle.oce_model.specs.Model.{Model, text}
 use Rattle.crossed_bounds.specs.CrossedBounds.{memberIri, memberExternal, memberKey}
-use Rattle.members.specs.Members.{memberJoins}
+use Rattle.crossed_members.specs.Members.{memberJoins}
 use Rattle.crossed_buckets.specs.Buckets.{bucketCount, bucketOf, empty, severalInner, oneInner, oneExternal, crowded, noted, memberBucket, placeOf, afterMember, known, isCrowded, collected, crowdedBelow, crowdedMembers, Noted, Continued}
 
 -- ---- one member

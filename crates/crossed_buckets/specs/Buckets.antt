@@ -1,6 +1,5 @@
 -- The members of rule 5.4 in buckets by the bytes of their iris: members with one iri are in one bucket, so a group that is reported is in a bucket
 -- of several members, one of them external.
--- Assumes nothing.
 use Prim.Native.Nat.{ℕ, _+_, _-_, _%_, _≤_, _<_}
 use mathlib.Core.Path.{_≡_}
 use mathlib.Core.Bool.{Bool, cond, _&&_, _||_}
@@ -11,7 +10,7 @@ use Rattle.base.specs.Lists.{each, steps, only}
 use Rattle.numbers.specs.Bytes.{le64}
 use Rattle.oce_model.specs.Model.{Model}
 use Rattle.crossed_bounds.specs.CrossedBounds.{memberExternal, memberKey}
-use Rattle.members.specs.Members.{memberJoins}
+use Rattle.crossed_members.specs.Members.{memberJoins}
 
 -- how many buckets there are: a prime, so that each of the eight bytes tells
 abbrev pub bucketCount : ℕ

@@ -1,12 +1,12 @@
 // Which members of the groups of rule 5.4 may be reported: those whose bucket, by the bytes of the iri, has
 // several members and an external one.
-use accept::Layout;
-use members::member_external;
-use members::member_iri;
-use members::member_joins;
+use image_accept::Layout;
+use crossed_members::member_external;
+use crossed_members::member_iri;
+use crossed_members::member_joins;
 use numbers::at64;
 use numbers::read64;
-use texts::text_of;
+use image_texts::text_of;
 ghost use mathlib.Core.Path.{_≡_};
 ghost use mathlib.Core.Bool.{_&&_};
 ghost use Prim.Native.Nat.{_+_, _%_, _<_, _≤_};
@@ -15,10 +15,10 @@ ghost use lib.ListN.{length, getD, take, set};
 ghost use Rattle.base.specs.Lists.{tab, only};
 ghost use Rattle.oce_model.specs.Format.{textTag};
 ghost use Rattle.oce_model.specs.Model.{modelOf};
-ghost use Rattle.accept.specs.Layout.{Laid, Tabled};
-ghost use Rattle.externals.specs.Columns.{Listed};
+ghost use Rattle.image_accept.specs.Layout.{Laid, Tabled};
+ghost use Rattle.structural_externals.specs.Columns.{Listed};
 ghost use Rattle.crossed_bounds.specs.CrossedBounds.{memberIri};
-ghost use Rattle.members.specs.Members.{memberCount, isMember};
+ghost use Rattle.crossed_members.specs.Members.{memberCount, isMember};
 ghost use Rattle.crossed_buckets.specs.Buckets.{bucketCount, bucketOf, placeOf, crowded, noted, collected, crowdedMembers, Noted, Continued};
 
 // How many buckets there are: a prime, so that each of the eight bytes tells.

@@ -1,5 +1,4 @@
 -- Laws of decimal digits: one digit more, how many there are at most, and that they stand for the number.
--- Assumes nothing.
 use Prim.Native.Nat.{ℕ, zero, suc, _+_, _-_, _*_, _/_, _%_, _^_, _≤_, _<_}
 use native.Mathlib.Nat.{pow-succ'}
 use native.Mathlib.Omega.{arith}

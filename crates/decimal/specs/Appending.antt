@@ -1,5 +1,4 @@
 -- Bytes put into a buffer one behind the other.
--- Assumes nothing.
 use Prim.Native.Nat.{ℕ, _+_, _≤_}
 use mathlib.Core.Path.{_≡_}
 use mathlib.Core.List.{List}

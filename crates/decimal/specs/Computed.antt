@@ -1,5 +1,4 @@
 -- Every definition of this crate, opened: a claim that is `unfolding computed` computes.
--- Assumes nothing.
 use Prim.Native.Nat.{ℕ}
 use Rattle.decimal.specs.Decimal.{digitsIn, decimal, valueOf}
 

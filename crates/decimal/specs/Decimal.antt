@@ -1,5 +1,4 @@
 -- Decimal numbers as bytes. Document 01, 'The printed report': 'numbers are decimal'.
--- Assumes nothing.
 use Prim.Native.Nat.{ℕ, zero, suc, _+_, _-_, _*_, _/_, _%_}
 use mathlib.Core.Bool.{cond}
 use mathlib.Core.List.{List, [], _∷_, _++_}

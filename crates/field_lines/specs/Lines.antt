@@ -1,5 +1,4 @@
 -- The lines that list an image's fields, up to the first that runs past its end: offset, tag and length, in decimal.
--- Assumes nothing.
 use Prim.Native.Nat.{ℕ, _+_, _≤_}
 use mathlib.Core.Path.{_≡_}
 use mathlib.Core.List.{List, [], _∷_, _++_}

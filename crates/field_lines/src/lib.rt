@@ -7,6 +7,7 @@ use reader::Found;
 use reader::step_from;
 ghost use Prim.Native.Nat.{_+_, _<_, _≤_};
 ghost use lib.ListN.{length};
+ghost use Rattle.numbers.specs.Bytes.{wordRange};
 ghost use Rattle.decimal.specs.Appending.{Appended};
 ghost use Rattle.field_lines.specs.Lines.{fieldLine, foundLine, longestFieldLine, Pieced};
 
@@ -32,7 +33,7 @@ fn put_field(out: &mut [u8], k: usize, at: u32, tag: u8, len: u16) -> usize
 
 // The line of what was found at an offset.
 fn put_found(out: &mut [u8], k: usize, at: usize, found: Found) -> usize
-    requires { ⌜ (k + longestFieldLine ≤ length (now out)) × (at < 4294967296) ⌝ }
+    requires { ⌜ (k + longestFieldLine ≤ length (now out)) × (at < wordRange) ⌝ }
     ensures { λ r. ⌜ Appended (now (out .entry)) k (foundLine at found) (now (out .exit)) r ⌝ }
 {
     match found {
@@ -43,7 +44,7 @@ fn put_found(out: &mut [u8], k: usize, at: usize, found: Found) -> usize
 
 // The lines of the fields from an offset on, as long as the longest line has room: at the start of out.
 pub fn put_fields(image: &[u8], from: usize, out: &mut [u8]) -> Piece
-    requires { ⌜ (from ≤ length (now image)) × (length (now image) < 4294967296) ⌝ }
+    requires { ⌜ (from ≤ length (now image)) × (length (now image) < wordRange) ⌝ }
     ensures { λ r. ⌜ Pieced (now (image .entry)) from (now (out .entry)) (now (out .exit)) r ⌝ }
 {
     let mut at = from;

@@ -1,5 +1,4 @@
 -- Laws of the filled image: one slot's bytes, where they stand, and the loop over slots.
--- Assumes nothing.
 use Prim.Native.Nat.{ℕ, zero, suc, _+_, _*_, _-_, _%_, _≤_, _<_, _^_}
 use native.Mathlib.Numerals.{add-one}
 use native.Mathlib.Omega.{arith}
@@ -20,12 +19,12 @@ use Rattle.oce_model.specs.Model.{modelOf}
 use Rattle.oce_model.proofs.Accepted.{Accepted, accepted, connectors-length, outputs-length}
 use Rattle.oce_model.proofs.Attributes.{bytes-length}
 use Rattle.oce_model.proofs.Records.{nth-at}
-use Rattle.accept.specs.Layout.{Laid, sectionOf, layoutOf}
-use Rattle.accept.specs.declared.Layout.{Layout}
-use Rattle.records.proofs.Laws.{connectors-counted}
+use Rattle.image_accept.specs.Layout.{Laid, sectionOf, layoutOf}
+use Rattle.image_accept.specs.declared.Layout.{Layout}
+use Rattle.image_records.proofs.Laws.{connectors-counted}
 use Rattle.unify.specs.Slots.{Slots, slot}
-use Rattle.slots.specs.Columns.{width, attrsOf, view, slotCount, Room}
-use Rattle.slots.proofs.Laws.{slot-view}
+use Rattle.unify_slots.specs.Columns.{width, attrsOf, view, slotCount, Room}
+use Rattle.unify_slots.proofs.Laws.{slot-view}
 use Rattle.outcome.specs.Filled.{withSlots}
 use Rattle.moved.proofs.Regions.{offset, connectorSlots, outputSlots, offset-connector, offset-out, slots-fit, slots-apart}
 use Rattle.moved.proofs.Refilled.{withSlots-is}

@@ -1,6 +1,6 @@
 // The filled image: the attributes of slots that stand in columns, written over those of the image.
-use accept::Layout;
-use accept::Section;
+use image_accept::Layout;
+use image_accept::Section;
 use base::copy_at;
 use numbers::write16;
 use numbers::write64;
@@ -14,7 +14,7 @@ use oce_model::MIN_BIT;
 use oce_model::NOMINAL_BIT;
 use oce_model::QUANTITY_BIT;
 use oce_model::UNIT_BIT;
-use slots::WIDTH;
+use unify_slots::WIDTH;
 ghost use mathlib.Core.Path.{_≡_};
 ghost use mathlib.Core.List.{_++_};
 ghost use Prim.Native.Nat.{_+_, _*_, _≤_, _<_};
@@ -24,8 +24,8 @@ ghost use Rattle.numbers.specs.Bytes.{leBytes};
 ghost use Rattle.oce_model.specs.Format.{attrsLength, longestImage};
 ghost use Rattle.oce_model.specs.Attributes.{attrsBytes};
 ghost use Rattle.oce_model.specs.Model.{modelOf};
-ghost use Rattle.accept.specs.Layout.{Laid};
-ghost use Rattle.slots.specs.Columns.{attrsOf, view, slotCount, Room};
+ghost use Rattle.image_accept.specs.Layout.{Laid};
+ghost use Rattle.unify_slots.specs.Columns.{attrsOf, view, slotCount, Room};
 ghost use Rattle.outcome.specs.Filled.{slotOffsets, withSlots};
 
 // Three text numbers, by their low 16 bits.

@@ -1,5 +1,4 @@
 -- The image with other attributes in its slots is accepted again, if refusals 6 and 8 find no fault in them.
--- Assumes nothing.
 use Prim.Native.Nat.{ℕ, _+_, _<_}
 use native.Mathlib.Decide.{ℕ-discrete}
 use native.Mathlib.Omega.{arith}

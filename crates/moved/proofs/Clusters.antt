@@ -1,5 +1,4 @@
 -- The clusters of a model without errors: who belongs to them, and that no slot belongs to two.
--- Assumes nothing.
 use Prim.Native.Nat.{ℕ, _+_, _≤_, _<_}
 use native.Mathlib.Decide.{ℕ-discrete, decLt}
 use native.Mathlib.Omega.{arith}

@@ -1,5 +1,4 @@
 -- Demand 3 over the definitions: its statement is Demand3 of specs/Moved, and this is its proof.
--- Assumes nothing.
 use Prim.Native.Nat.{ℕ, _+_, _^_, _≤_, _<_}
 use mathlib.Core.Path.{_≡_, refl, ap, _∙_}
 use mathlib.Core.Bool.{true, false, not, _&&_, _||_}

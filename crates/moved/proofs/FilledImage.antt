@@ -1,6 +1,5 @@
 -- The filled image of every accepted image, with errors or without: it is as long as the image, has its fields and all of its model but attributes, is accepted again,
 -- and with an error in the report it is the image.
--- Assumes nothing.
 use Prim.Native.Nat.{ℕ, _+_, _<_}
 use mathlib.Core.Path.{_≡_, refl, _∙_}
 use mathlib.Core.Bool.{Bool, true, false, cond}

@@ -1,5 +1,4 @@
 -- Values that run through a model without errors, over its filled slots: what arrives at an input and at a boundary output, and that there is a choice of values.
--- Assumes nothing.
 use Prim.Native.Nat.{ℕ, _+_, _^_, _≤_, _<_}
 use native.Mathlib.Omega.{arith}
 use mathlib.Core.Path.{_≡_, refl, sym, ap, _∙_}

@@ -1,5 +1,4 @@
 -- A property of attributes that `put` keeps, where the value put in is one that attributes with the property can declare: rule 6 keeps it in all slots.
--- Assumes nothing.
 use Prim.Native.Nat.{ℕ, zero, suc, _+_, _<_}
 use native.Mathlib.Decide.{ℕ-discrete, decLt}
 use native.Mathlib.Omega.{arith}

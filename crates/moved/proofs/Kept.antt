@@ -1,5 +1,4 @@
 -- Rule 6 changes no declared attribute: what a slot declares in the image, it declares likewise after every root.
--- Assumes nothing.
 use Prim.Native.Nat.{ℕ, zero, suc, _+_, _≤_, _<_}
 use native.Mathlib.Decide.{ℕ-discrete, decLt}
 use native.Mathlib.Omega.{arith}

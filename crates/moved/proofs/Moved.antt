@@ -1,5 +1,4 @@
 -- Demand 3 of what a checking call leaves in its two buffers: by the equations that such a call promises of its answer and its buffers, all of Moved holds.
--- Assumes nothing.
 use Prim.Native.Nat.{ℕ}
 use native.Mathlib.Omega.{arith}
 use mathlib.Core.Path.{_≡_, refl, sym, ap, _∙_}

@@ -1,5 +1,4 @@
 -- Lists of diagnostics without an error: then none of their parts has one, and no error was asked for.
--- Assumes nothing.
 use Prim.Native.Nat.{ℕ, zero, suc, _<_}
 use native.Mathlib.Decide.{ℕ-discrete}
 use native.Mathlib.Omega.{arith}

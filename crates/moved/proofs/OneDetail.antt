@@ -1,5 +1,4 @@
 -- Rule 6, one detail of one cluster: where nothing conflicts, its members come out with one key.
--- Assumes nothing.
 use Prim.Native.Nat.{ℕ, _≤_, _<_}
 use native.Mathlib.Omega.{arith}
 use mathlib.Core.Path.{_≡_, refl, sym, ap, _∙_}

@@ -1,5 +1,4 @@
 -- The image with its slots' attributes written anew: read again it has the same fields, and its model is the model with those attributes.
--- Assumes nothing.
 use Prim.Native.Nat.{ℕ, _+_, _*_, _≤_, _<_}
 use native.Mathlib.Omega.{arith}
 use mathlib.Core.Path.{_≡_, refl, sym, ap, _∙_}

@@ -1,5 +1,4 @@
 -- Where the attributes of an image's slots stand: each at the end of its field, so no two of them overlap, and what stands before them in a field lies outside all.
--- Assumes nothing.
 use Prim.Native.Nat.{ℕ, _+_, _-_, _≤_, _<_}
 use native.Mathlib.Decide.{decLt}
 use native.Mathlib.Omega.{arith}

@@ -1,5 +1,4 @@
 -- From one key for each detail to one range, and to texts that are alike.
--- Assumes nothing.
 use Prim.Native.Nat.{ℕ, _+_, _<_}
 use native.Mathlib.Decide.{ℕ-discrete}
 use native.Mathlib.Omega.{arith}

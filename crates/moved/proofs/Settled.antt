@@ -1,5 +1,4 @@
 -- Rule 6 over a whole model without errors: all members of a cluster end with one key for each detail.
--- Assumes nothing.
 use Prim.Native.Nat.{ℕ, zero, suc, _+_, _*_, _≤_, _<_}
 use native.Mathlib.Decide.{ℕ-discrete}
 use native.Mathlib.Omega.{arith}

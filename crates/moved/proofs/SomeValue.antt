@@ -1,5 +1,4 @@
 -- A range that isn't crossed holds a value of its type, and no value lies inside a crossed Integer range.
--- Assumes nothing.
 use Prim.Native.Nat.{ℕ, zero, suc, _^_, _≤_, _<_}
 use native.Mathlib.Decide.{decLt}
 use native.Mathlib.Omega.{arith}

@@ -1,6 +1,5 @@
 -- What a report without errors says of the model. Rules 1 to 4: its connections form disjoint stars, each from an Out to Ins and boundary outputs of its type.
 -- Rules 5 and 6: no range is crossed, and nothing that a cluster declares conflicts.
--- Assumes nothing.
 use Prim.Native.Nat.{ℕ, _+_, _≤_, _<_}
 use mathlib.Core.Path.{_≡_, refl, sym, _∙_}
 use mathlib.Core.Bool.{Bool, true, false, cond, not, _&&_, true≢false}

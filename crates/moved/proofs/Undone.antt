@@ -1,5 +1,4 @@
 -- The image with its own attributes in its slots is the image: what the filled buffer holds where the report has an error.
--- Assumes nothing.
 use Prim.Native.Nat.{ℕ, _+_, _-_, _<_}
 use native.Mathlib.Decide.{decLt}
 use native.Mathlib.Omega.{arith}

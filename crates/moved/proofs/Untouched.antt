@@ -1,5 +1,4 @@
 -- Rule 6 touches only members: a slot that belongs to no cluster of the roots passed is as it was.
--- Assumes nothing.
 use Prim.Native.Nat.{ℕ, zero, suc, _+_, _≤_, _<_}
 use native.Mathlib.Decide.{ℕ-discrete}
 use native.Mathlib.Omega.{arith}

@@ -1,5 +1,4 @@
 -- Attributes that refusals 6 and 8 find no fault in: those of an accepted image are such, and rule 6 keeps them so.
--- Assumes nothing.
 use Prim.Native.Nat.{ℕ, zero, suc, _+_, _^_, _≤_, _<_}
 use native.Mathlib.Decide.{ℕ-discrete, decLt}
 use native.Mathlib.Omega.{arith}

@@ -1,5 +1,4 @@
 -- The slots of a model are its connectors' and boundary outputs' attributes: six numbers, each of its width. The image has it so, and rule 6 keeps it.
--- Assumes nothing.
 use Prim.Native.Nat.{ℕ, _+_, _-_, _≤_, _<_}
 use native.Mathlib.Decide.{ℕ-discrete, decLt}
 use native.Mathlib.Omega.{arith}

@@ -1,5 +1,4 @@
 -- Demand 3 isn't empty: a model with a fan-out and a boundary output, a unit and two ends that are filled, meets all its premises. And its premise on kinds is needed.
--- Assumes nothing.
 use Prim.Native.Nat.{ℕ, _<_}
 use native.Mathlib.Decide.{decLt}
 use native.Mathlib.Omega.{arith}

@@ -1,5 +1,4 @@
 -- Every definition of this crate and of those below it, opened: a claim that is `unfolding computed` computes.
--- Assumes nothing.
 use Prim.Native.Nat.{ℕ}
 use Rattle.outcome.specs.Computed.{computed as computedBelow}
 use Rattle.moved.specs.Moved.{connected, chosen, arrivals, delivered, alikeUnits}

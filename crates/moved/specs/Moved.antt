@@ -1,5 +1,4 @@
 -- Demand 3: values that move along connections. Document 01, 'Demand 3': 'one claim about what one checking call leaves in its two buffers wherever no refusal applies'.
--- Assumes nothing.
 use Prim.Native.Nat.{ℕ, _<_}
 use mathlib.Core.Path.{_≡_}
 use mathlib.Core.Bool.{Bool, true, false, cond, not, _&&_, _||_}

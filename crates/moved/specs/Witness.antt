@@ -1,5 +1,4 @@
 -- Two images for demand 3: one that meets all its premises, and one that shows why attributes must be of their type's kind.
--- Assumes nothing.
 use Prim.Native.Nat.{ℕ}
 use mathlib.Core.List.{List, [], _∷_, _++_}
 use Rattle.numbers.specs.Bytes.{leBytes}

@@ -1,5 +1,4 @@
 -- The bits of a number: what setting one more does to each.
--- Assumes nothing.
 use Prim.Native.Nat.{ℕ, suc, _+_, _-_, _*_, _/_, _%_, _<_, _^_}
 use native.Mathlib.Nat.{add-div-right, add-mul-div-right, add-mul-mod-self-right, mod-lt, pow-suc, div-lt-iff-lt-mul}
 use native.Mathlib.Decide.{decLt}

@@ -1,5 +1,4 @@
 -- Laws of numbers of w bytes, over the width.
--- Assumes nothing.
 use Prim.Native.Nat.{ℕ, zero, suc, _+_, _*_, _/_, _%_, _≤_, _<_, _^_}
 use native.Mathlib.Nat.{zero-add, add-zero, suc-add, pow-succ', pow-zero, div-lt-iff-lt-mul, div-div-eq-div-mul, mod-add-div, mod-lt, div-one, mul-assoc, add-mul-div-left, add-mul-mod-self-left}
 use native.Mathlib.Numerals.{add-one}

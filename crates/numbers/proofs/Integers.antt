@@ -1,5 +1,4 @@
 -- The order of the integers, and that 64 bits stand for a number that fits them.
--- Assumes nothing.
 use mathlib.Core.Path.{_≡_, refl, ap}
 use mathlib.Core.Bool.{true, false, false≢true, true≢false}
 use Prim.Native.Nat.{ℕ, _<_}

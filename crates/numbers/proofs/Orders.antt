@@ -1,5 +1,4 @@
 -- What holds of every order whose tests `lt` and `le` compute: `reals` and `integers` are two.
--- Assumes nothing.
 use mathlib.Core.Path.{_≡_, refl, sym, _∙_}
 use mathlib.Core.Logic.{_⊎_, inl, inr}
 use mathlib.Core.Bool.{Bool, true, false, false≢true}

@@ -1,5 +1,4 @@
 -- The order of the finite floats: total and transitive, and `lt` one way is `le` refused the other way.
--- Assumes nothing.
 use mathlib.Core.Path.{_≡_, refl, sym, _∙_}
 use mathlib.Core.Bool.{Bool, true, false, _&&_, _||_, false≢true, or-true}
 use mathlib.Core.Logic.{inl, inr}

@@ -1,5 +1,4 @@
 -- Numbers in bytes. Document 01, 'The model image': all numbers have the low byte first.
--- Assumes nothing.
 use Prim.Native.Nat.{ℕ, zero, suc, _+_, _*_, _/_, _%_, _^_}
 use mathlib.Core.Bool.{Bool}
 use mathlib.Core.List.{List, [], _∷_}
@@ -13,6 +12,13 @@ use mir.Val.{toZ}
 -- how many numbers a byte can hold
 abbrev pub byteRange : ℕ
 byteRange = 256
+
+-- and how many two and four bytes can
+abbrev pub shortRange : ℕ
+shortRange = 65536
+
+abbrev pub wordRange : ℕ
+wordRange = 4294967296
 
 -- the byte at an offset, 0 past the end
 abbrev pub byte : List ℕ → ℕ → ℕ

@@ -5,10 +5,10 @@ ghost use Prim.Native.Nat.{_+_, _≤_, _<_};
 ghost use lib.ListN.{length};
 ghost use lib.Ieee.Scale.{finite};
 ghost use Rattle.base.specs.Buffers.{patch};
-ghost use Rattle.numbers.specs.Bytes.{byte, le16, le32, le64, leBytes, signed64, real64};
+ghost use Rattle.numbers.specs.Bytes.{byteRange, shortRange, wordRange, byte, le16, le32, le64, leBytes, signed64, real64};
 
 pub fn wide(x: u8) -> usize
-    ensures { λ r. ⌜ (r ≡ x) × (r < 256) ⌝ }
+    ensures { λ r. ⌜ (r ≡ x) × (r < byteRange) ⌝ }
 {
     x as usize
 }
@@ -17,21 +17,21 @@ pub fn wide(x: u8) -> usize
 
 pub fn read8(s: &[u8], at: usize) -> usize
     requires { ⌜ at < length (now s) ⌝ }
-    ensures { λ r. ⌜ (r ≡ byte (now (s .entry)) at) × (r < 256) ⌝ }
+    ensures { λ r. ⌜ (r ≡ byte (now (s .entry)) at) × (r < byteRange) ⌝ }
 {
     wide(s[at])
 }
 
 pub fn read16(s: &[u8], at: usize) -> usize
     requires { ⌜ at + 2 ≤ length (now s) ⌝ }
-    ensures { λ r. ⌜ (r ≡ le16 (now (s .entry)) at) × (r < 65536) ⌝ }
+    ensures { λ r. ⌜ (r ≡ le16 (now (s .entry)) at) × (r < shortRange) ⌝ }
 {
     wide(s[at]) + 256 * wide(s[at + 1])
 }
 
 pub fn read32(s: &[u8], at: usize) -> usize
     requires { ⌜ at + 4 ≤ length (now s) ⌝ }
-    ensures { λ r. ⌜ (r ≡ le32 (now (s .entry)) at) × (r < 4294967296) ⌝ }
+    ensures { λ r. ⌜ (r ≡ le32 (now (s .entry)) at) × (r < wordRange) ⌝ }
 {
     read16(s, at) + 65536 * read16(s, at + 2)
 }
@@ -48,7 +48,7 @@ pub fn read64(s: &[u8], at: usize) -> u64
 // ---- the same of any index: bytes past the end count as 0
 
 pub fn byte_at(s: &[u8], at: usize) -> usize
-    ensures { λ r. ⌜ (r ≡ byte (now (s .entry)) at) × (r < 256) ⌝ }
+    ensures { λ r. ⌜ (r ≡ byte (now (s .entry)) at) × (r < byteRange) ⌝ }
 {
     if at < s.len() {
         return wide(s[at]);
@@ -57,7 +57,7 @@ pub fn byte_at(s: &[u8], at: usize) -> usize
 }
 
 pub fn at16(s: &[u8], at: usize) -> usize
-    ensures { λ r. ⌜ (r ≡ le16 (now (s .entry)) at) × (r < 65536) ⌝ }
+    ensures { λ r. ⌜ (r ≡ le16 (now (s .entry)) at) × (r < shortRange) ⌝ }
 {
     if s.len() <= at {
         return 0;
@@ -66,7 +66,7 @@ pub fn at16(s: &[u8], at: usize) -> usize
 }
 
 pub fn at32(s: &[u8], at: usize) -> usize
-    ensures { λ r. ⌜ (r ≡ le32 (now (s .entry)) at) × (r < 4294967296) ⌝ }
+    ensures { λ r. ⌜ (r ≡ le32 (now (s .entry)) at) × (r < wordRange) ⌝ }
 {
     if s.len() <= at {
         return 0;

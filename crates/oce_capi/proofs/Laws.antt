@@ -1,5 +1,4 @@
 -- The numbers of each case of an answer, and demand 3 of an equal answer.
--- Assumes nothing.
 use Prim.Native.Nat.{ℕ}
 use mathlib.Core.Path.{_≡_, sym, ap, _∙_, subst}
 use mathlib.Core.List.{List}

@@ -1,5 +1,4 @@
 -- The answer as a caller in C sees it.
--- Assumes nothing.
 use Prim.Native.Nat.{ℕ}
 use Rattle.outcome.specs.declared.Answer.{Answer}
 use Rattle.outcome.specs.declared.Answer.the-variants.{Refused, Checked}

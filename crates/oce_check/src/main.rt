@@ -9,7 +9,7 @@ use print_check::Input;
 use print_check::print_check;
 use print_check::print_fields;
 use print_check::read_image;
-use texts::same_bytes;
+use image_texts::same_bytes;
 
 // One byte more than the longest image, to notice one that is longer.
 const READ: usize = LONGEST_IMAGE + 1;

@@ -1,5 +1,4 @@
 -- Laws of the errors and warnings of a list: of two lists, together, and where there is no error.
--- Assumes nothing.
 use Prim.Native.Nat.{_+_, _<_}
 use native.Mathlib.Decide.{decLt}
 use native.Mathlib.Omega.{arith}

@@ -1,5 +1,4 @@
 -- The lengths of a diagnostic's bytes and of a report's.
--- Assumes nothing.
 use Prim.Native.Nat.{_*_}
 use native.Mathlib.Nat.{mul-suc}
 use native.Mathlib.Omega.{arith}

@@ -1,3 +1,4 @@
 pub mod Diagnostics
 pub mod Encoding
 pub mod Putting
+pub mod Decoded

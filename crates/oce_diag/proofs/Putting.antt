@@ -1,5 +1,4 @@
 -- Laws of a report that diagnostics are put into: one run after another, and a loop that puts some in each turn.
--- Assumes nothing.
 use Prim.Native.Nat.{ℕ, suc, _+_, _*_, _≤_, _<_}
 use native.Mathlib.Nat.{add-zero, mul-zero, mul-suc}
 use native.Mathlib.Numerals.{add-one}

@@ -1,9 +1,9 @@
 -- The bytes of a report. Document 01, 'The report': 'One diagnostic is tag 0x20, length 16, then severity, code, rule, detail, subject kind, three zero bytes,
 -- subject number 4, place 4'.
--- Assumes nothing.
 use Prim.Native.Nat.{ℕ, _+_}
 use mathlib.Core.List.{List, [], _∷_, _++_}
 use Rattle.numbers.specs.Bytes.{leBytes}
+use Rattle.oce_model.specs.Format.{leadingBytes}
 use Rattle.oce_diag.specs.declared.Severity.{Severity}
 use Rattle.oce_diag.specs.declared.Severity.the-variants.{Error, Warning}
 use Rattle.oce_diag.specs.declared.DiagCode.{DiagCode}
@@ -20,7 +20,7 @@ abbrev pub diagnosticLength : ℕ
 diagnosticLength = 16
 
 abbrev pub diagnosticSize : ℕ
-diagnosticSize = 3 + diagnosticLength
+diagnosticSize = leadingBytes + diagnosticLength
 
 -- document 01's numbers for a severity, a code and a subject kind
 abbrev pub severityNumber : Severity → ℕ
@@ -37,11 +37,23 @@ codeNumber BoundMismatch = 6
 codeNumber CrossedBounds = 7
 codeNumber DisplayUnitDivergence = 8
 
+abbrev pub noSubjectKind : ℕ
+noSubjectKind = 0
+
+abbrev pub textSubjectKind : ℕ
+textSubjectKind = 1
+
+abbrev pub connectorSubjectKind : ℕ
+connectorSubjectKind = 2
+
+abbrev pub blockSubjectKind : ℕ
+blockSubjectKind = 3
+
 abbrev pub subjectKind : Subject → ℕ
-subjectKind Nothing = 0
-subjectKind (Text t) = 1
-subjectKind (Connector i) = 2
-subjectKind (Block i) = 3
+subjectKind Nothing = noSubjectKind
+subjectKind (Text t) = textSubjectKind
+subjectKind (Connector i) = connectorSubjectKind
+subjectKind (Block i) = blockSubjectKind
 
 -- a text's number or an id, 0 for no subject
 abbrev pub subjectNumber : Subject → ℕ
@@ -49,6 +61,28 @@ subjectNumber Nothing = 0
 subjectNumber (Text t) = t
 subjectNumber (Connector i) = i
 subjectNumber (Block i) = i
+
+-- where its parts stand, from its first byte
+abbrev pub severityPlace : ℕ
+severityPlace = leadingBytes
+
+abbrev pub codePlace : ℕ
+codePlace = severityPlace + 1
+
+abbrev pub rulePlace : ℕ
+rulePlace = codePlace + 1
+
+abbrev pub detailPlace : ℕ
+detailPlace = rulePlace + 1
+
+abbrev pub kindPlace : ℕ
+kindPlace = detailPlace + 1
+
+abbrev pub numberPlace : ℕ
+numberPlace = kindPlace + 4
+
+abbrev pub placePlace : ℕ
+placePlace = numberPlace + 4
 
 unfoldable pub diagnosticBytes : Diagnostic → List ℕ
 diagnosticBytes d =

@@ -3,3 +3,5 @@ pub mod Diagnostics
 pub mod Encoding
 pub mod Putting
 pub mod Computed
+-- The diagnostics that a report's bytes stand for.
+pub mod Decoded

@@ -1,5 +1,4 @@
 -- Diagnostics put into a report one after the other: each is written where it fits, and counted in any case.
--- Assumes nothing.
 use Prim.Native.Nat.{ℕ, suc, _+_, _*_, _≤_}
 use mathlib.Core.Path.{_≡_}
 use mathlib.Core.Bool.{cond}

@@ -1,5 +1,7 @@
 // Diagnostics, as oce-diag has them, and how they are put into a report.
 use base::copy_at;
+use numbers::at32;
+use numbers::byte_at;
 use oce_model::LEADING_BYTES;
 use oce_model::NO_TEXT;
 ghost use mathlib.Core.Path.{_≡_};
@@ -9,6 +11,8 @@ ghost use Rattle.base.specs.Lists.{only};
 ghost use Rattle.oce_diag.specs.Diagnostics.{connectorSubject, blockSubject, error, warning, errors, warnings};
 ghost use Rattle.oce_diag.specs.Encoding.{severityNumber, codeNumber, subjectKind, subjectNumber, diagnosticBytes};
 ghost use Rattle.oce_diag.specs.Putting.{putOne, total, Put};
+ghost use Rattle.numbers.specs.Bytes.{shortRange, wordRange, byte};
+ghost use Rattle.oce_diag.specs.Decoded.{severityOf, codeOf, subjectFrom, diagnosticAt};
 
 // The Rust's `Severity`, less `Info`, which no rule gives.
 pub enum Severity {
@@ -59,11 +63,35 @@ pub const DIAGNOSTIC_LENGTH: usize = 16;
 
 pub const DIAGNOSTIC_SIZE: usize = LEADING_BYTES + DIAGNOSTIC_LENGTH;
 
+// Where its parts stand, from its first byte.
+pub const SEVERITY_PLACE: usize = LEADING_BYTES;
+
+pub const CODE_PLACE: usize = SEVERITY_PLACE + 1;
+
+pub const RULE_PLACE: usize = CODE_PLACE + 1;
+
+pub const DETAIL_PLACE: usize = RULE_PLACE + 1;
+
+pub const KIND_PLACE: usize = DETAIL_PLACE + 1;
+
+pub const NUMBER_PLACE: usize = KIND_PLACE + 4;
+
+pub const PLACE_PLACE: usize = NUMBER_PLACE + 4;
+
+// The numbers of the kinds of subject.
+const NO_SUBJECT: u8 = 0;
+
+pub const TEXT_SUBJECT: u8 = 1;
+
+pub const CONNECTOR_SUBJECT: u8 = 2;
+
+pub const BLOCK_SUBJECT: u8 = 3;
+
 // ---- making a diagnostic
 
 // The Rust's `subject_of`: a connector's iri text, or its id where it has none.
 pub fn subject_of(iri: usize, id: u32) -> Subject
-    requires { ⌜ iri < 65536 ⌝ }
+    requires { ⌜ iri < shortRange ⌝ }
     ensures { λ r. ⌜ r ≡ connectorSubject iri id ⌝ }
 {
     if iri == NO_TEXT {
@@ -74,7 +102,7 @@ pub fn subject_of(iri: usize, id: u32) -> Subject
 
 // The Rust's `block_subject_of`: a block's instance text, or its id where it has none.
 pub fn block_subject_of(instance: usize, id: u32) -> Subject
-    requires { ⌜ instance < 65536 ⌝ }
+    requires { ⌜ instance < shortRange ⌝ }
     ensures { λ r. ⌜ r ≡ blockSubject instance id ⌝ }
 {
     if instance == NO_TEXT {
@@ -139,10 +167,10 @@ fn subject_kind(s: Subject) -> u8
     ensures { λ r. ⌜ r ≡ subjectKind s ⌝ }
 {
     match s {
-        Subject::Nothing => 0,
-        Subject::Text(_) => 1,
-        Subject::Connector(_) => 2,
-        Subject::Block(_) => 3,
+        Subject::Nothing => NO_SUBJECT,
+        Subject::Text(_) => TEXT_SUBJECT,
+        Subject::Connector(_) => CONNECTOR_SUBJECT,
+        Subject::Block(_) => BLOCK_SUBJECT,
     }
 }
 
@@ -193,7 +221,7 @@ fn encode(d: Diagnostic) -> [u8; DIAGNOSTIC_SIZE]
 
 // Diagnostic n of a report, written where there is room for it.
 fn write(report: &mut [u8], n: usize, d: Diagnostic)
-    requires { ⌜ n < 4294967296 ⌝ }
+    requires { ⌜ n < wordRange ⌝ }
     ensures { λ _. ⌜ now (report .exit) ≡ putOne (now (report .entry)) n d ⌝ }
 {
     let at = DIAGNOSTIC_SIZE * n;
@@ -205,7 +233,7 @@ fn write(report: &mut [u8], n: usize, d: Diagnostic)
 
 // One more error or one more warning.
 fn count(c: Counted, d: Diagnostic) -> Counted
-    requires { ⌜ total c < 4294967296 ⌝ }
+    requires { ⌜ total c < wordRange ⌝ }
     ensures { λ r. ⌜ (r .errors ≡ c .errors + errors (d ∷ [])) × (r .warnings ≡ c .warnings + warnings (d ∷ [])) × (total r ≡ total c + 1) ⌝ }
 {
     let severity = d.severity;
@@ -223,7 +251,7 @@ fn count(c: Counted, d: Diagnostic) -> Counted
 
 // The next diagnostic of a report: written where there is room for it, and counted in any case.
 pub fn put(report: &mut [u8], counted: Counted, d: Diagnostic) -> Counted
-    requires { ⌜ total counted < 4294967296 ⌝ }
+    requires { ⌜ total counted < wordRange ⌝ }
     ensures { λ r. ⌜ Put (now (report .entry)) counted (d ∷ []) (now (report .exit)) r × (total r ≤ total counted + 1) ⌝ }
 {
     write(report, counted.errors + counted.warnings, d);
@@ -232,11 +260,80 @@ pub fn put(report: &mut [u8], counted: Counted, d: Diagnostic) -> Counted
 
 // Puts a diagnostic where a test passes.
 pub fn put_if(report: &mut [u8], counted: Counted, bad: bool, d: Diagnostic) -> Counted
-    requires { ⌜ total counted < 4294967296 ⌝ }
+    requires { ⌜ total counted < wordRange ⌝ }
     ensures { λ r. ⌜ Put (now (report .entry)) counted (only bad d) (now (report .exit)) r × (total r ≤ total counted + 1) ⌝ }
 {
     if bad {
         return put(report, counted, d);
     }
     counted
+}
+
+// ---- reading it back
+
+// The severity, the code and the subject that have the given numbers. Numbers that nothing has are read as
+// some diagnostic's.
+fn severity_of(n: u8) -> Severity
+    ensures { λ r. ⌜ r ≡ severityOf n ⌝ }
+{
+    if n == 0 {
+        return Severity::Error;
+    }
+    Severity::Warning
+}
+
+fn code_of(n: u8) -> DiagCode
+    ensures { λ r. ⌜ r ≡ codeOf n ⌝ }
+{
+    match n {
+        1 => DiagCode::MalformedDocument,
+        2 => DiagCode::DirectionMismatch,
+        3 => DiagCode::SingleAssignment,
+        4 => DiagCode::TypeMismatch,
+        5 => DiagCode::UnitQuantityMismatch,
+        6 => DiagCode::BoundMismatch,
+        7 => DiagCode::CrossedBounds,
+        _ => DiagCode::DisplayUnitDivergence,
+    }
+}
+
+fn subject_from(kind: u8, number: u32) -> Subject
+    ensures { λ r. ⌜ r ≡ subjectFrom kind number ⌝ }
+{
+    if kind == TEXT_SUBJECT {
+        return Subject::Text(number);
+    }
+    if kind == CONNECTOR_SUBJECT {
+        return Subject::Connector(number);
+    }
+    if kind == BLOCK_SUBJECT {
+        return Subject::Block(number);
+    }
+    Subject::Nothing
+}
+
+fn byte_of(s: &[u8], at: usize) -> u8
+    ensures { λ r. ⌜ r ≡ byte (now (s .entry)) at ⌝ }
+{
+    byte_at(s, at) as u8
+}
+
+// Diagnostic i of a report.
+pub fn diagnostic_at(report: &[u8], i: usize) -> Diagnostic
+    requires { ⌜ i < wordRange ⌝ }
+    ensures { λ r. ⌜ r ≡ diagnosticAt (now (report .entry)) i ⌝ }
+{
+    let at = DIAGNOSTIC_SIZE * i;
+    let number = at32(report, at + NUMBER_PLACE) as u32;
+    let severity = severity_of(byte_of(report, at + SEVERITY_PLACE));
+    let code = code_of(byte_of(report, at + CODE_PLACE));
+    let subject = subject_from(byte_of(report, at + KIND_PLACE), number);
+    Diagnostic {
+        severity,
+        code,
+        rule: byte_of(report, at + RULE_PLACE),
+        detail: byte_of(report, at + DETAIL_PLACE),
+        subject,
+        place: at32(report, at + PLACE_PLACE) as u32,
+    }
 }

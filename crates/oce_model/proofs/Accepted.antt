@@ -1,5 +1,4 @@
 -- What it says of an image that it isn't turned away, how long its fields are, and the records of its model as fields.
--- Assumes nothing.
 use Prim.Native.Nat.{ℕ, zero, suc, _+_, _*_, _≤_, _<_}
 use native.Mathlib.Omega.{arith}
 use mathlib.Core.Logic.{_≢_}

@@ -1,5 +1,4 @@
 -- The models are accepted.
--- Assumes nothing.
 use mathlib.Core.Path.{_≡_, refl}
 use mathlib.Core.List.{List, map}
 use mathlib.Core.Option.{none}

@@ -1,6 +1,5 @@
 -- The fields of an image: lists of them that pass a test or don't, those with a tag, and a walk over all of them as a loop makes it, with what is left at an offset
 -- and one field fewer at each step.
--- Assumes nothing.
 use Prim.Native.Nat.{ℕ, zero, suc, _+_, _≤_, _<_}
 use native.Mathlib.Omega.{arith}
 use mathlib.Core.Path.{_≡_, refl, sym, ap, _∙_}

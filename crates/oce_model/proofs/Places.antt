@@ -1,5 +1,4 @@
 -- The fields of an image stand one behind the other, up to its end: no two of them overlap, and those with a tag stand in their order.
--- Assumes nothing.
 use Prim.Native.Nat.{ℕ, zero, suc, _+_, _≤_, _<_}
 use native.Mathlib.Omega.{arith}
 use mathlib.Core.Logic.{_⊎_, inl, inr}

@@ -1,5 +1,4 @@
 -- Records of one kind stand side by side: record i of a kind of fixed length stands i field lengths behind the first.
--- Assumes nothing.
 use mathlib.Core.Logic.{_≢_}
 use Prim.Native.Nat.{_+_, _*_, ℕ, zero, suc, _<_, _≤_}
 use borrow.Author.Tests.{ne-eqb, eq-eqb, leb-true, leb-false, ltb-false}

@@ -1,5 +1,4 @@
 -- An image whose fields' three leading bytes are unchanged has the same fields.
--- Assumes nothing.
 use Prim.Native.Nat.{ℕ, zero, suc, _+_, _≤_, _<_}
 use native.Mathlib.Nat.{add-zero}
 use native.Mathlib.Omega.{arith}

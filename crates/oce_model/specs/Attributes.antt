@@ -1,12 +1,11 @@
 -- Attributes: 32 bytes of the image, and what they declare. Document 01, 'Attributes: kind 1, set bits 1, ..'; the Rust's `Attrs`, `RealAttrs` and `IntAttrs`.
--- Assumes nothing.
 use Prim.Native.Nat.{ℕ, _+_, _^_}
 use mathlib.Core.Bool.{Bool, true, false}
 use mathlib.Core.List.{List, [], _∷_, _++_}
 use mathlib.Core.Option.{Option, none, some}
 use lib.ListN.{getD, set}
 use Rattle.numbers.specs.Bytes.{byte, le16, le64, leBytes, bit}
-use Rattle.oce_model.specs.Format.{quantityBit, unitBit, displayUnitBit, minBit, maxBit, nominalBit}
+use Rattle.oce_model.specs.Format.{quantityBit, unitBit, displayUnitBit, minBit, maxBit, nominalBit, attrsMarksAt, attrsQuantityAt, attrsUnitAt, attrsDisplayUnitAt, attrsMinAt, attrsMaxAt, attrsNominalAt}
 
 -- `marks` is the byte of set bits. `nums` has a number for each of the bits 0 to 5: quantity, unit, display unit (text numbers), min, max, nominal (64 bit patterns).
 pub record Attrs : Type 0 where
@@ -21,8 +20,10 @@ noAttrs = record { kind = 0; marks = 0; nums = [] }
 unfoldable pub attrsAt : List ℕ → ℕ → Attrs
 attrsAt s at = record {
   kind = byte s at;
-  marks = byte s (at + 1);
-  nums = le16 s (at + 2) ∷ le16 s (at + 4) ∷ le16 s (at + 6) ∷ le64 s (at + 8) ∷ le64 s (at + 16) ∷ le64 s (at + 24) ∷ [];
+  marks = byte s (at + attrsMarksAt);
+  nums =
+    le16 s (at + attrsQuantityAt) ∷ le16 s (at + attrsUnitAt) ∷ le16 s (at + attrsDisplayUnitAt)
+    ∷ le64 s (at + attrsMinAt) ∷ le64 s (at + attrsMaxAt) ∷ le64 s (at + attrsNominalAt) ∷ [];
 }
 
 abbrev pub num : Attrs → ℕ → ℕ

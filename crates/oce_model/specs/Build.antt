@@ -1,5 +1,4 @@
 -- Images built of records, field by field, for examples.
--- Assumes nothing.
 use Prim.Native.Nat.{ℕ, _-_, _^_}
 use mathlib.Core.List.{List, [], _∷_, _++_}
 use lib.ListN.{length, replicate}

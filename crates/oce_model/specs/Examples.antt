@@ -1,6 +1,5 @@
 -- The thirteen models of document 01, the image of 78 bytes of its printed report, and four models more.
 -- What the rules give for each stands with the rules; what a whole check gives, in the crate outcome.
--- Assumes nothing.
 use Prim.Native.Nat.{ℕ}
 use mathlib.Core.List.{List, [], _∷_, _++_}
 use lib.ListN.{replicate}

@@ -1,6 +1,5 @@
 -- The numbers of document 01, 'The model image'. Every other file cites them by these names.
--- Assumes nothing.
-use Prim.Native.Nat.{ℕ}
+use Prim.Native.Nat.{ℕ, _+_}
 use mathlib.Core.List.{List, [], _∷_}
 use lib.ListN.{getD}
 
@@ -9,6 +8,10 @@ use lib.ListN.{getD}
 -- the bytes of a field before its contents: a tag and a length of two
 abbrev pub leadingBytes : ℕ
 leadingBytes = 3
+
+-- where its length stands, from its tag
+abbrev pub fieldLengthAt : ℕ
+fieldLengthAt = 1
 
 abbrev pub headTag : ℕ
 headTag = 1
@@ -75,28 +78,46 @@ portLength = 4
 abbrev pub mostPorts : ℕ
 mostPorts = 256
 
+abbrev pub headLength : ℕ
+headLength = 20
+
+abbrev pub connectorLength : ℕ
+connectorLength = 48
+
+abbrev pub connectionLength : ℕ
+connectionLength = 8
+
+abbrev pub externalInputLength : ℕ
+externalInputLength = 4
+
+abbrev pub boundaryInputLength : ℕ
+boundaryInputLength = 34
+
+abbrev pub boundaryOutputLength : ℕ
+boundaryOutputLength = 38
+
 unfoldable pub fixedLength : ℕ → ℕ
-fixedLength t = getD (0 ∷ 20 ∷ 0 ∷ 0 ∷ 48 ∷ 8 ∷ 4 ∷ 34 ∷ 38 ∷ []) t 0
+fixedLength t = getD (0 ∷ headLength ∷ 0 ∷ 0 ∷ connectorLength ∷ connectionLength ∷ externalInputLength ∷ boundaryInputLength ∷ boundaryOutputLength ∷ []) t 0
 
 -- a record of each kind of fixed length, with its leading bytes
 abbrev pub connectorSize : ℕ
-connectorSize = 51
+connectorSize = leadingBytes + connectorLength
 
 abbrev pub connectionSize : ℕ
-connectionSize = 11
+connectionSize = leadingBytes + connectionLength
 
 abbrev pub externalInputSize : ℕ
-externalInputSize = 7
+externalInputSize = leadingBytes + externalInputLength
 
 abbrev pub boundaryInputSize : ℕ
-boundaryInputSize = 37
+boundaryInputSize = leadingBytes + boundaryInputLength
 
 abbrev pub boundaryOutputSize : ℕ
-boundaryOutputSize = 41
+boundaryOutputSize = leadingBytes + boundaryOutputLength
 
 -- ---- the whole image: a head alone has the fewest bytes
 abbrev pub shortestImage : ℕ
-shortestImage = 23
+shortestImage = leadingBytes + headLength
 
 abbrev pub longestImage : ℕ
 longestImage = 65535
@@ -168,16 +189,105 @@ unboundedBit = 6
 abbrev pub unboundedValueBit : ℕ
 unboundedValueBit = 7
 
--- ---- where attributes stand, from the start of a field of each kind that has them
+-- ---- where each part stands, from the start of its field: the table's contents in their order, behind tag and length
+
+-- the head
+abbrev pub headVersionAt : ℕ
+headVersionAt = leadingBytes
+
+abbrev pub headZerosAt : ℕ
+headZerosAt = headVersionAt + 2
+
+abbrev pub headMinAt : ℕ
+headMinAt = headZerosAt + 2
+
+abbrev pub headMaxAt : ℕ
+headMaxAt = headMinAt + 8
+
+-- a block; the ids of its ports stand behind
+abbrev pub blockIdAt : ℕ
+blockIdAt = leadingBytes
+
+abbrev pub blockInstanceAt : ℕ
+blockInstanceAt = blockIdAt + 4
+
+abbrev pub blockInputsAt : ℕ
+blockInputsAt = blockInstanceAt + 2
+
+abbrev pub blockOutputsAt : ℕ
+blockOutputsAt = blockInputsAt + 2
+
+abbrev pub blockPorts : ℕ
+blockPorts = blockOutputsAt + 2
+
+-- a connector
+abbrev pub connectorIdAt : ℕ
+connectorIdAt = leadingBytes
+
+abbrev pub connectorBlockAt : ℕ
+connectorBlockAt = connectorIdAt + 4
+
+abbrev pub connectorDirAt : ℕ
+connectorDirAt = connectorBlockAt + 4
+
+abbrev pub connectorTypeAt : ℕ
+connectorTypeAt = connectorDirAt + 1
+
+abbrev pub connectorClassAt : ℕ
+connectorClassAt = connectorTypeAt + 1
+
+abbrev pub connectorIriAt : ℕ
+connectorIriAt = connectorClassAt + 4
+
 abbrev pub connectorAttrs : ℕ
-connectorAttrs = 19
+connectorAttrs = connectorIriAt + 2
+
+-- a connection
+abbrev pub connectionFromAt : ℕ
+connectionFromAt = leadingBytes
+
+abbrev pub connectionToAt : ℕ
+connectionToAt = connectionFromAt + 4
+
+-- an external input
+abbrev pub externalInputIdAt : ℕ
+externalInputIdAt = leadingBytes
+
+-- a boundary input
+abbrev pub boundaryInputIriAt : ℕ
+boundaryInputIriAt = leadingBytes
 
 abbrev pub boundaryInputAttrs : ℕ
-boundaryInputAttrs = 5
+boundaryInputAttrs = boundaryInputIriAt + 2
+
+-- a boundary output
+abbrev pub boundaryOutputIriAt : ℕ
+boundaryOutputIriAt = leadingBytes
+
+abbrev pub boundaryOutputSourceAt : ℕ
+boundaryOutputSourceAt = boundaryOutputIriAt + 2
 
 abbrev pub boundaryOutputAttrs : ℕ
-boundaryOutputAttrs = 9
+boundaryOutputAttrs = boundaryOutputSourceAt + 4
 
--- ---- where the ids of a block's ports begin, from the start of its field
-abbrev pub blockPorts : ℕ
-blockPorts = 13
+-- attributes, from their own start
+abbrev pub attrsMarksAt : ℕ
+attrsMarksAt = 1
+
+abbrev pub attrsQuantityAt : ℕ
+attrsQuantityAt = attrsMarksAt + 1
+
+abbrev pub attrsUnitAt : ℕ
+attrsUnitAt = attrsQuantityAt + 2
+
+abbrev pub attrsDisplayUnitAt : ℕ
+attrsDisplayUnitAt = attrsUnitAt + 2
+
+abbrev pub attrsMinAt : ℕ
+attrsMinAt = attrsDisplayUnitAt + 2
+
+abbrev pub attrsMaxAt : ℕ
+attrsMaxAt = attrsMinAt + 8
+
+abbrev pub attrsNominalAt : ℕ
+attrsNominalAt = attrsMaxAt + 8

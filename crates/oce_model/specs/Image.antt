@@ -1,5 +1,4 @@
 -- The fields of an image. Document 01, 'A field is a tag byte, a two-byte length, then contents'.
--- Assumes nothing.
 use Prim.Native.Nat.{ℕ, zero, suc, _+_}
 use mathlib.Core.Bool.{Bool, cond}
 use mathlib.Core.List.{List, [], _∷_}
@@ -8,16 +7,16 @@ use lib.ListN.{length}
 use lib.Dec.{eqb, leb}
 use Rattle.base.specs.Lists.{keep}
 use Rattle.numbers.specs.Bytes.{byte, le16}
-use Rattle.oce_model.specs.Format.{leadingBytes}
+use Rattle.oce_model.specs.Format.{leadingBytes, fieldLengthAt}
 pub use Rattle.oce_model.specs.declared.Field.{Field}
 
 -- where the field at an offset ends. Bytes past the image's end read as 0, so a field whose leading bytes run past it ends past it too
 unfoldable pub fieldEnd : List ℕ → ℕ → ℕ
-fieldEnd s at = at + leadingBytes + le16 s (at + 1)
+fieldEnd s at = at + leadingBytes + le16 s (at + fieldLengthAt)
 
 -- the field at an offset
 unfoldable pub fieldAt : List ℕ → ℕ → ℕ → ℕ → Field
-fieldAt s at prev ord = record { at = at; tag = byte s at; len = le16 s (at + 1); prev = prev; ord = ord }
+fieldAt s at prev ord = record { at = at; tag = byte s at; len = le16 s (at + fieldLengthAt); prev = prev; ord = ord }
 
 -- how many fields with the tag t stand right before a field of that tag, where n fields with the tag prev do
 abbrev pub ordOf : ℕ → ℕ → ℕ → ℕ

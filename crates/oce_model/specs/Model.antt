@@ -1,5 +1,4 @@
 -- The model that an image holds: its records, in the order of their fields. The Rust's `ModelGraph`, less what document 01 leaves out.
--- Assumes nothing.
 use Prim.Native.Nat.{ℕ, _+_, _*_}
 use mathlib.Core.Bool.{Bool}
 use mathlib.Core.List.{List, [], _∷_, map}
@@ -8,7 +7,7 @@ use lib.Dec.{eqb, ltb}
 use lib.IntN.{ℤ}
 use Rattle.base.specs.Lists.{tab}
 use Rattle.numbers.specs.Bytes.{byte, le16, le32, le64, signed64}
-use Rattle.oce_model.specs.Format.{textTag, blockTag, connectorTag, connectionTag, externalInputTag, boundaryInputTag, boundaryOutputTag, portLength, blockPorts, dirIn, connectorAttrs, boundaryInputAttrs, boundaryOutputAttrs}
+use Rattle.oce_model.specs.Format.{textTag, blockTag, connectorTag, connectionTag, externalInputTag, boundaryInputTag, boundaryOutputTag, portLength, blockPorts, dirIn, connectorAttrs, boundaryInputAttrs, boundaryOutputAttrs, headMinAt, headMaxAt, blockIdAt, blockInstanceAt, blockInputsAt, blockOutputsAt, connectorIdAt, connectorBlockAt, connectorDirAt, connectorTypeAt, connectorClassAt, connectorIriAt, connectionFromAt, connectionToAt, externalInputIdAt, boundaryInputIriAt, boundaryOutputIriAt, boundaryOutputSourceAt}
 use Rattle.oce_model.specs.Attributes.{Attrs, noAttrs, attrsAt}
 use Rattle.oce_model.specs.Image.{Field, fields, ofTag}
 use Rattle.oce_model.specs.Texts.{textOf}
@@ -62,15 +61,15 @@ idsAt s at n = tab n (λ i. le32 s (at + portLength * i))
 
 -- id 4, instance text 2, input count 2, output count 2, then ids of 4, inputs first
 abbrev pub inputCountAt : List ℕ → ℕ → ℕ
-inputCountAt s at = le16 s (at + 9)
+inputCountAt s at = le16 s (at + blockInputsAt)
 
 abbrev pub outputCountAt : List ℕ → ℕ → ℕ
-outputCountAt s at = le16 s (at + 11)
+outputCountAt s at = le16 s (at + blockOutputsAt)
 
 unfoldable pub blockAt : List ℕ → ℕ → Block
 blockAt s at = record {
-  id = le32 s (at + 3);
-  instanceIri = le16 s (at + 7);
+  id = le32 s (at + blockIdAt);
+  instanceIri = le16 s (at + blockInstanceAt);
   inputs = idsAt s (at + blockPorts) (inputCountAt s at);
   outputs = idsAt s (at + blockPorts + portLength * inputCountAt s at) (outputCountAt s at);
 }
@@ -78,38 +77,38 @@ blockAt s at = record {
 -- id 4, block 4, direction 1, type 1, enum class 4, iri text 2, attributes 32
 unfoldable pub connectorAt : List ℕ → ℕ → Connector
 connectorAt s at = record {
-  id = le32 s (at + 3);
-  block = le32 s (at + 7);
-  dir = byte s (at + 11);
-  valueType = byte s (at + 12);
-  enumClass = le32 s (at + 13);
-  iri = le16 s (at + 17);
+  id = le32 s (at + connectorIdAt);
+  block = le32 s (at + connectorBlockAt);
+  dir = byte s (at + connectorDirAt);
+  valueType = byte s (at + connectorTypeAt);
+  enumClass = le32 s (at + connectorClassAt);
+  iri = le16 s (at + connectorIriAt);
   attrs = attrsAt s (at + connectorAttrs);
 }
 
 -- from 4, to 4
 unfoldable pub connectionAt : List ℕ → ℕ → Connection
-connectionAt s at = record { from = le32 s (at + 3); to = le32 s (at + 7) }
+connectionAt s at = record { from = le32 s (at + connectionFromAt); to = le32 s (at + connectionToAt) }
 
 -- id 4
 unfoldable pub externalInputAt : List ℕ → ℕ → ℕ
-externalInputAt s at = le32 s (at + 3)
+externalInputAt s at = le32 s (at + externalInputIdAt)
 
 -- iri text 2, attributes 32
 unfoldable pub boundaryInputAt : List ℕ → ℕ → BoundaryInput
-boundaryInputAt s at = record { iri = le16 s (at + 3); attrs = attrsAt s (at + boundaryInputAttrs) }
+boundaryInputAt s at = record { iri = le16 s (at + boundaryInputIriAt); attrs = attrsAt s (at + boundaryInputAttrs) }
 
 -- iri text 2, source 4, attributes 32
 unfoldable pub boundaryOutputAt : List ℕ → ℕ → BoundaryOutput
-boundaryOutputAt s at = record { iri = le16 s (at + 3); source = le32 s (at + 5); attrs = attrsAt s (at + boundaryOutputAttrs) }
+boundaryOutputAt s at = record { iri = le16 s (at + boundaryOutputIriAt); source = le32 s (at + boundaryOutputSourceAt); attrs = attrsAt s (at + boundaryOutputAttrs) }
 
 -- the model, read off the fields. The head is at offset 0: version 2, zero bytes 2, Integer default min 8, max 8
 unfoldable pub modelOf : List ℕ → Model
 modelOf s =
     let fs = fields s in
     record {
-      integerMin = signed64 (le64 s 7);
-      integerMax = signed64 (le64 s 15);
+      integerMin = signed64 (le64 s headMinAt);
+      integerMax = signed64 (le64 s headMaxAt);
       texts = map (textOf s) (ofTag textTag fs);
       blocks = map (λ f. blockAt s (f .at)) (ofTag blockTag fs);
       connectors = map (λ f. connectorAt s (f .at)) (ofTag connectorTag fs);

@@ -1,5 +1,4 @@
 -- Document 01, 'When an image is turned away': refusals 1 to 8, the lowest number first, each with the offset of the first field at fault.
--- Assumes nothing.
 use Prim.Native.Nat.{ℕ, zero, suc, _+_, _*_}
 use mathlib.Core.Bool.{Bool, cond, not, _&&_, _||_, false}
 use mathlib.Core.List.{List}
@@ -8,7 +7,7 @@ use lib.ListN.{length}
 use lib.Dec.{eqb, leb, ltb}
 use Rattle.base.specs.Lists.{any}
 use Rattle.numbers.specs.Bytes.{le16, bit}
-use Rattle.oce_model.specs.Format.{headTag, textTag, blockTag, connectorTag, boundaryInputTag, boundaryOutputTag, highestTag, most, longestText, blockLength, portLength, mostPorts, fixedLength, shortestImage, longestImage, version, integerKind, enumKind, dirOut, noText, quantityBit, unitBit, displayUnitBit, minBit, maxBit, nominalBit, unboundedBit, unboundedValueBit, connectorAttrs, boundaryInputAttrs, boundaryOutputAttrs}
+use Rattle.oce_model.specs.Format.{headTag, textTag, blockTag, connectorTag, boundaryInputTag, boundaryOutputTag, highestTag, most, longestText, blockLength, portLength, mostPorts, fixedLength, shortestImage, longestImage, version, integerKind, enumKind, dirOut, noText, quantityBit, unitBit, displayUnitBit, minBit, maxBit, nominalBit, unboundedBit, unboundedValueBit, connectorAttrs, boundaryInputAttrs, boundaryOutputAttrs, headVersionAt, headZerosAt}
 use Rattle.oce_model.specs.Attributes.{Attrs, attrsAt, num}
 use Rattle.oce_model.specs.Image.{Field, fields, stop, ofTag, first}
 use Rattle.oce_model.specs.Texts.{isTextByte, textOf}
@@ -44,11 +43,11 @@ tooMany f = leb (most (f .tag)) (f .ord)
 
 -- 6: 'Version, zero bytes, direction, type, enum class or the attribute rules are broken'
 abbrev pub versionAt : List ℕ → ℕ → ℕ
-versionAt s at = le16 s (at + 3)
+versionAt s at = le16 s (at + headVersionAt)
 
 -- the head's two zero bytes
 abbrev pub zeroBytesAt : List ℕ → ℕ → ℕ
-zeroBytesAt s at = le16 s (at + 5)
+zeroBytesAt s at = le16 s (at + headZerosAt)
 
 unfoldable pub badHead : List ℕ → ℕ → Bool
 badHead s at = not (eqb (versionAt s at) version) || not (eqb (zeroBytesAt s at) 0)

@@ -1,5 +1,4 @@
 -- Texts: which bytes they may hold, their bytes in the image, and their order.
--- Assumes nothing.
 use Prim.Native.Nat.{ℕ, _+_}
 use mathlib.Core.Bool.{Bool, true, false, cond, _&&_}
 use mathlib.Core.List.{List, [], _∷_}

@@ -75,6 +75,9 @@ pub struct Connection {
 
 pub const LEADING_BYTES: usize = 3;
 
+// where a field's length stands, from its tag
+pub const FIELD_LENGTH_AT: usize = 1;
+
 pub const HEAD_TAG: usize = 1;
 
 pub const TEXT_TAG: usize = 2;
@@ -92,6 +95,9 @@ pub const BOUNDARY_INPUT_TAG: usize = 7;
 pub const BOUNDARY_OUTPUT_TAG: usize = 8;
 
 pub const HIGHEST_TAG: usize = BOUNDARY_OUTPUT_TAG;
+
+// the tags and 0, which none has
+pub const TAG_COUNT: usize = HIGHEST_TAG + 1;
 
 // the most records of each tag
 pub const MOST_TEXTS: usize = 1024;
@@ -121,7 +127,7 @@ pub const PORT_LENGTH: usize = 4;
 
 pub const MOST_PORTS: usize = 256;
 
-pub const SHORTEST_IMAGE: usize = 23;
+pub const SHORTEST_IMAGE: usize = LEADING_BYTES + HEAD_LENGTH;
 
 pub const LONGEST_IMAGE: usize = 65535;
 
@@ -156,22 +162,96 @@ pub const UNBOUNDED_BIT: usize = 6;
 
 pub const UNBOUNDED_VALUE_BIT: usize = 7;
 
-pub const CONNECTOR_ATTRS: usize = 19;
+// the bytes of each tag's contents, where that is fixed, and of a record with its leading bytes
+pub const HEAD_LENGTH: usize = 20;
 
-pub const BOUNDARY_INPUT_ATTRS: usize = 5;
+pub const CONNECTOR_LENGTH: usize = 48;
 
-pub const BOUNDARY_OUTPUT_ATTRS: usize = 9;
+pub const CONNECTION_LENGTH: usize = 8;
 
-// a record of each kind of fixed size, with its leading bytes
-pub const CONNECTOR_SIZE: usize = 51;
+pub const EXTERNAL_INPUT_LENGTH: usize = 4;
 
-pub const CONNECTION_SIZE: usize = 11;
+pub const BOUNDARY_INPUT_LENGTH: usize = 34;
 
-pub const EXTERNAL_INPUT_SIZE: usize = 7;
+pub const BOUNDARY_OUTPUT_LENGTH: usize = 38;
 
-pub const BOUNDARY_INPUT_SIZE: usize = 37;
+pub const CONNECTOR_SIZE: usize = LEADING_BYTES + CONNECTOR_LENGTH;
 
-pub const BOUNDARY_OUTPUT_SIZE: usize = 41;
+pub const CONNECTION_SIZE: usize = LEADING_BYTES + CONNECTION_LENGTH;
 
-// where the ids of a block's ports begin, from the start of its field
-pub const BLOCK_PORTS: usize = 13;
+pub const EXTERNAL_INPUT_SIZE: usize = LEADING_BYTES + EXTERNAL_INPUT_LENGTH;
+
+pub const BOUNDARY_INPUT_SIZE: usize = LEADING_BYTES + BOUNDARY_INPUT_LENGTH;
+
+pub const BOUNDARY_OUTPUT_SIZE: usize = LEADING_BYTES + BOUNDARY_OUTPUT_LENGTH;
+
+// where each part stands, from the start of its field
+// the head
+pub const HEAD_VERSION_AT: usize = LEADING_BYTES;
+
+pub const HEAD_ZEROS_AT: usize = HEAD_VERSION_AT + 2;
+
+pub const HEAD_MIN_AT: usize = HEAD_ZEROS_AT + 2;
+
+pub const HEAD_MAX_AT: usize = HEAD_MIN_AT + 8;
+
+// a block; the ids of its ports stand behind
+pub const BLOCK_ID_AT: usize = LEADING_BYTES;
+
+pub const BLOCK_INSTANCE_AT: usize = BLOCK_ID_AT + 4;
+
+pub const BLOCK_INPUTS_AT: usize = BLOCK_INSTANCE_AT + 2;
+
+pub const BLOCK_OUTPUTS_AT: usize = BLOCK_INPUTS_AT + 2;
+
+pub const BLOCK_PORTS: usize = BLOCK_OUTPUTS_AT + 2;
+
+// a connector
+pub const CONNECTOR_ID_AT: usize = LEADING_BYTES;
+
+pub const CONNECTOR_BLOCK_AT: usize = CONNECTOR_ID_AT + 4;
+
+pub const CONNECTOR_DIR_AT: usize = CONNECTOR_BLOCK_AT + 4;
+
+pub const CONNECTOR_TYPE_AT: usize = CONNECTOR_DIR_AT + 1;
+
+pub const CONNECTOR_CLASS_AT: usize = CONNECTOR_TYPE_AT + 1;
+
+pub const CONNECTOR_IRI_AT: usize = CONNECTOR_CLASS_AT + 4;
+
+pub const CONNECTOR_ATTRS: usize = CONNECTOR_IRI_AT + 2;
+
+// a connection
+pub const CONNECTION_FROM_AT: usize = LEADING_BYTES;
+
+pub const CONNECTION_TO_AT: usize = CONNECTION_FROM_AT + 4;
+
+// an external input
+pub const EXTERNAL_INPUT_ID_AT: usize = LEADING_BYTES;
+
+// a boundary input
+pub const BOUNDARY_INPUT_IRI_AT: usize = LEADING_BYTES;
+
+pub const BOUNDARY_INPUT_ATTRS: usize = BOUNDARY_INPUT_IRI_AT + 2;
+
+// a boundary output
+pub const BOUNDARY_OUTPUT_IRI_AT: usize = LEADING_BYTES;
+
+pub const BOUNDARY_OUTPUT_SOURCE_AT: usize = BOUNDARY_OUTPUT_IRI_AT + 2;
+
+pub const BOUNDARY_OUTPUT_ATTRS: usize = BOUNDARY_OUTPUT_SOURCE_AT + 4;
+
+// attributes, from their own start
+pub const ATTRS_MARKS_AT: usize = 1;
+
+pub const ATTRS_QUANTITY_AT: usize = ATTRS_MARKS_AT + 1;
+
+pub const ATTRS_UNIT_AT: usize = ATTRS_QUANTITY_AT + 2;
+
+pub const ATTRS_DISPLAY_UNIT_AT: usize = ATTRS_UNIT_AT + 2;
+
+pub const ATTRS_MIN_AT: usize = ATTRS_DISPLAY_UNIT_AT + 2;
+
+pub const ATTRS_MAX_AT: usize = ATTRS_MIN_AT + 8;
+
+pub const ATTRS_NOMINAL_AT: usize = ATTRS_MAX_AT + 8;

@@ -1,5 +1,4 @@
 -- Each way that a checking call can end gives what the definitions say.
--- Assumes nothing.
 use Prim.Native.Nat.{ℕ, zero, suc, _+_, _-_, _*_, _<_, _≤_}
 use native.Mathlib.Omega.{arith}
 use mathlib.Core.Path.{_≡_, refl, sym, ap, _∙_}
@@ -24,12 +23,12 @@ use Rattle.oce_diag.specs.declared.Diagnostic.{Diagnostic}
 use Rattle.oce_diag.proofs.Diagnostics.{errors-warnings, no-errors, some-error}
 use Rattle.oce_diag.proofs.Putting.{put-errors, put-warnings, put-room, putAll-length}
 use Rattle.oce_diag.proofs.Encoding.{reportBytes-length}
-use Rattle.accept.specs.Layout.{Laid, Tabled, acceptance, accepts}
-use Rattle.accept.specs.declared.Layout.{Layout}
-use Rattle.accept.specs.declared.Acceptance.{Acceptance}
-use Rattle.accept.specs.declared.Acceptance.the-variants as accepting
-use Rattle.records.proofs.Laws.{connectors-counted, connectors-few, outputs-counted, boundary-outputs-few}
-use Rattle.slots.specs.Columns.{width, slotCount, view, Room}
+use Rattle.image_accept.specs.Layout.{Laid, Tabled, acceptance, accepts}
+use Rattle.image_accept.specs.declared.Layout.{Layout}
+use Rattle.image_accept.specs.declared.Acceptance.{Acceptance}
+use Rattle.image_accept.specs.declared.Acceptance.the-variants as accepting
+use Rattle.image_records.proofs.Laws.{connectors-counted, connectors-few, outputs-counted, boundary-outputs-few}
+use Rattle.unify_slots.specs.Columns.{width, slotCount, view, Room}
 use Rattle.outcome.specs.Filled.{withSlots, filledOf}
 use Rattle.outcome.specs.Report.{finalSlots}
 use Rattle.outcome.specs.Answer.{reportOf, reportSize, answerFor, answer, filledAfter, reportAfter}

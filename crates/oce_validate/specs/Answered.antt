@@ -1,5 +1,4 @@
 -- What the steps of a checking call give.
--- Assumes nothing.
 use Prim.Native.Nat.{ℕ, _≤_}
 use mathlib.Core.Path.{_≡_}
 use mathlib.Core.List.{List}
@@ -10,7 +9,7 @@ use Rattle.oce_diag.specs.Putting.{total}
 use Rattle.oce_diag.specs.Encoding.{reportBytes}
 use Rattle.oce_diag.specs.declared.Counted.{Counted}
 use Rattle.unify.specs.Unify.{filledSlots}
-use Rattle.slots.specs.Columns.{slotCount, view, Room}
+use Rattle.unify_slots.specs.Columns.{slotCount, view, Room}
 use Rattle.outcome.specs.Answer.{reportOf, reportSize, answer, filledAfter, reportAfter}
 use Rattle.outcome.specs.declared.Answer.{Answer}
 use Rattle.rules.specs.Ran.{mostDiagnostics}

@@ -1,7 +1,7 @@
 // The checking call.
-use accept::Acceptance;
-use accept::Layout;
-use accept::accept;
+use image_accept::Acceptance;
+use image_accept::Layout;
+use image_accept::accept;
 use base::copy_at;
 use filling::copy_image;
 use filling::fill_image;
@@ -13,7 +13,7 @@ use oce_model::MOST_CONNECTORS;
 use oce_model::MOST_TEXTS;
 use outcome::Answer;
 use rules::run;
-use slots::WIDTH;
+use unify_slots::WIDTH;
 ghost use mathlib.Core.Path.{_≡_};
 ghost use Prim.Native.Nat.{_+_, _*_, _≤_};
 ghost use lib.ListN.{length};
@@ -21,7 +21,7 @@ ghost use Rattle.base.specs.Buffers.{startsWith};
 ghost use Rattle.oce_model.specs.Format.{textTag, blockTag};
 ghost use Rattle.oce_diag.specs.Encoding.{diagnosticSize, reportBytes};
 ghost use Rattle.oce_diag.specs.Putting.{total};
-ghost use Rattle.accept.specs.Layout.{Laid, Tabled};
+ghost use Rattle.image_accept.specs.Layout.{Laid, Tabled};
 ghost use Rattle.outcome.specs.Filled.{filledOf};
 ghost use Rattle.outcome.specs.Answer.{reportOf, numbersOf, answer, filledAfter, reportAfter};
 ghost use Rattle.rules.specs.Ran.{Ready};

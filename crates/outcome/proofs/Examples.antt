@@ -1,5 +1,4 @@
 -- The thirteen models of document 01, the image of 78 bytes and four models more: each has its report, its filled image and its answer.
--- Assumes nothing.
 use mathlib.Core.Path.{_≡_, refl}
 use mathlib.Core.List.{map}
 use lib.Ieee.{ofBits, lt}

@@ -1,5 +1,4 @@
 -- The answer of a checking call, and what it leaves in its two buffers.
--- Assumes nothing.
 use Prim.Native.Nat.{ℕ, _*_}
 use mathlib.Core.Bool.{cond}
 use mathlib.Core.List.{List, [], _∷_}

@@ -1,5 +1,4 @@
 -- What a check gives for each of the models: whole report, whole filled image, and the answer where both buffers are just long enough.
--- Assumes nothing.
 use Prim.Native.Nat.{ℕ}
 use mathlib.Core.List.{List, [], _∷_, _++_, map}
 use mathlib.Core.Option.{none}

@@ -1,5 +1,4 @@
 -- The filled image. Document 01: 'The filled buffer starts with the image, attributes filled'.
--- Assumes nothing.
 use Prim.Native.Nat.{ℕ, _+_}
 use mathlib.Core.List.{List, _++_, map}
 use lib.ListN.{length, getD}

@@ -1,5 +1,4 @@
 -- The report of all rules, in the order of document 01, 'The reference', and the attributes that the filled image holds.
--- Assumes nothing.
 use mathlib.Core.Bool.{cond}
 use mathlib.Core.List.{List, _++_}
 use Rattle.oce_model.specs.Model.{Model}

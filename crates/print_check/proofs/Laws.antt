@@ -1,5 +1,4 @@
 -- Laws of a report that is printed, and of fields that are listed, piece by piece.
--- Assumes nothing.
 use Prim.Native.Nat.{ℕ, _-_, _≤_, _<_}
 use native.Mathlib.Omega.{arith}
 use mathlib.Core.Path.{_≡_}

@@ -1,7 +1,7 @@
 // A model image checked, and its report printed in large pieces; or its fields listed.
-use accept::Acceptance;
-use accept::Layout;
-use accept::accept;
+use image_accept::Acceptance;
+use image_accept::Layout;
+use image_accept::accept;
 use base::part_of;
 use field_lines::put_fields;
 use oce_model::LONGEST_IMAGE;
@@ -13,8 +13,9 @@ use printed::LONGEST_FIRST_LINE;
 use printed::first_line;
 use printed::put_lines;
 ghost use Prim.Native.Nat.{_<_};
+ghost use Rattle.numbers.specs.Bytes.{wordRange};
 ghost use Rattle.oce_model.specs.Format.{textTag};
-ghost use Rattle.accept.specs.Layout.{Laid, Tabled};
+ghost use Rattle.image_accept.specs.Layout.{Laid, Tabled};
 
 // The bytes of a piece.
 const PIECE: usize = 65536;
@@ -31,7 +32,7 @@ fn print_lines(
     report: &[u8],
     count: usize,
 ) -> bool
-    requires { ⌜ Laid (now image) layout × Tabled textTag (now image) (now texts) × (count < 4294967296) ⌝ }
+    requires { ⌜ Laid (now image) layout × Tabled textTag (now image) (now texts) × (count < wordRange) ⌝ }
 {
     let mut out = [0u8; PIECE];
     let mut next = 0;

@@ -1,5 +1,4 @@
 -- What is printed for the image of 78 bytes, and for a refusal.
--- Assumes nothing.
 use mathlib.Core.Path.{_≡_, refl}
 use mathlib.Core.List.{[]}
 use Rattle.oce_model.specs.Examples.{image78, written}

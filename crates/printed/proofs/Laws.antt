@@ -1,5 +1,4 @@
 -- Laws of the parts of a line, and of lines put one behind the other.
--- Assumes nothing.
 use Prim.Native.Nat.{ℕ, _+_, _-_, _≤_, _<_}
 use native.Mathlib.Decide.{decLt}
 use native.Mathlib.Omega.{arith}
@@ -16,14 +15,15 @@ use Rattle.oce_diag.specs.declared.DiagCode.{DiagCode}
 use Rattle.oce_diag.specs.declared.Subject.{Subject}
 use Rattle.oce_diag.specs.declared.Subject.the-variants.{Nothing, Text, Connector, Block}
 use Rattle.oce_diag.specs.declared.Diagnostic.{Diagnostic}
-use Rattle.accept.specs.Layout.{Laid}
-use Rattle.accept.specs.declared.Layout.{Layout}
+use Rattle.image_accept.specs.Layout.{Laid}
+use Rattle.image_accept.specs.declared.Layout.{Layout}
 use Rattle.decimal.specs.Appending.{Appended}
 use Rattle.decimal.proofs.Appending.{appended-length, appended-as, appended-then, appended-none, appended-start}
-use Rattle.subject.specs.Subject.{connectorSubject, blockSubject, labelled}
-use Rattle.texts.proofs.Places.{text-short}
+use Rattle.oce_diag.specs.Encoding.{connectorSubjectKind, blockSubjectKind}
+use Rattle.subject.specs.Subject.{labelled}
+use Rattle.image_texts.proofs.Places.{text-short}
 use Rattle.subject.proofs.Laws.{text-subject, connector-subject, block-subject}
-use Rattle.decoded.specs.Decoded.{diagnosticAt}
+use Rattle.oce_diag.specs.Decoded.{diagnosticAt}
 use Rattle.outcome.specs.declared.Answer.{Answer}
 use Rattle.printed.specs.Printed.{dash, severityName, codeName, subjectField, line, firstLine, linesFrom, longestLine}
 use Rattle.printed.specs.Pieces.{Pieced}
@@ -53,11 +53,11 @@ module _ (s : List ℕ) (x : Subject) {b : List ℕ} {at : ℕ} {b′ : List ℕ
     unfolding subjectField
     subject-text {i} e f v = rw e (appended-as v (f ∙ sym (text-subject h i)))
 
-    pub subject-connector : {i : ℕ} → x ≡ Connector i → Appended b at (labelled connectorSubject i) b′ r → Appended b at (subjectField s x) b′ r
+    pub subject-connector : {i : ℕ} → x ≡ Connector i → Appended b at (labelled connectorSubjectKind i) b′ r → Appended b at (subjectField s x) b′ r
     unfolding subjectField
     subject-connector {i} e v = rw e (appended-as v (sym (connector-subject h i)))
 
-    pub subject-block : {i : ℕ} → x ≡ Block i → Appended b at (labelled blockSubject i) b′ r → Appended b at (subjectField s x) b′ r
+    pub subject-block : {i : ℕ} → x ≡ Block i → Appended b at (labelled blockSubjectKind i) b′ r → Appended b at (subjectField s x) b′ r
     unfolding subjectField
     subject-block {i} e v = rw e (appended-as v (sym (block-subject h i)))
 

@@ -1,3 +1,8 @@
+-- The numbers of every diagnostic of an accepted image have room in its bytes.
+pub mod Lists
+pub mod Model
+pub mod Groups
+pub mod Rules
 -- Laws of the printed report, its pieces as a whole, and document 01's example.
 pub mod Laws
 pub mod Whole

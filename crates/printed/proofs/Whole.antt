@@ -1,5 +1,4 @@
 -- The lines of a report's bytes are those of its diagnostics, and pieces that follow one another are the whole.
--- Assumes nothing.
 use Prim.Native.Nat.{ℕ, suc, _+_, _-_, _<_, _≤_}
 use native.Mathlib.Nat.{zero-add, add-assoc}
 use native.Mathlib.Omega.{arith}
@@ -16,9 +15,9 @@ use Rattle.oce_diag.specs.Diagnostics.{errors, warnings}
 use Rattle.oce_diag.specs.Encoding.{reportBytes}
 use Rattle.oce_diag.specs.declared.Diagnostic.{Diagnostic}
 use Rattle.oce_diag.proofs.Diagnostics.{errors-warnings}
-use Rattle.decoded.specs.Decoded.{diagnosticAt, AllFitting}
-use Rattle.decoded.proofs.Decoded.{report-back}
-use Rattle.fitting.proofs.Rules.{reportOf-fits}
+use Rattle.oce_diag.specs.Decoded.{diagnosticAt, AllFitting}
+use Rattle.oce_diag.proofs.Decoded.{report-back}
+use Rattle.printed.proofs.Rules.{reportOf-fits}
 use Rattle.outcome.specs.Answer.{reportOf}
 use Rattle.outcome.specs.declared.Answer.the-variants.{Checked}
 use Rattle.printed.specs.Printed.{line, lines, firstLine, printed, linesFrom}

@@ -1,5 +1,4 @@
 -- What the program prints for the image of 78 bytes, and for a refusal.
--- Assumes nothing.
 use Prim.Native.Nat.{ℕ}
 use mathlib.Core.List.{List, [], _∷_}
 

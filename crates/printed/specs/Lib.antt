@@ -1,3 +1,5 @@
+-- A model whose numbers have four bytes.
+pub mod Bounded
 -- The printed report, and its pieces.
 pub mod Printed
 pub mod Pieces

@@ -1,5 +1,4 @@
 -- What a call leaves that prints some of a report's lines.
--- Assumes nothing.
 use Prim.Native.Nat.{ℕ, _-_, _≤_, _<_}
 use mathlib.Core.Path.{_≡_}
 use mathlib.Core.List.{List}

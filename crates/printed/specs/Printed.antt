@@ -1,6 +1,5 @@
 -- The printed report. Document 01, 'The printed report': 'First the counts, then a line a diagnostic in report order; numbers are decimal, lines end in 0x0A. Fields: severity
 -- (`error` or `warning`), code, rule and detail, place, subject (`-` for none). A refusal prints only `refused 1 at 0`, number and offset.'
--- Assumes nothing.
 use Prim.Native.Nat.{ℕ, _+_}
 use mathlib.Core.List.{List, [], _∷_, _++_}
 use lib.ListN.{length}
@@ -14,8 +13,9 @@ use Rattle.oce_diag.specs.declared.Subject.{Subject}
 use Rattle.oce_diag.specs.declared.Subject.the-variants.{Nothing, Text, Connector, Block}
 use Rattle.oce_diag.specs.declared.Diagnostic.{Diagnostic}
 use Rattle.decimal.specs.Decimal.{decimal, mostDigits, mostByteDigits}
-use Rattle.subject.specs.Subject.{textSubject, connectorSubject, blockSubject, subjectText}
-use Rattle.decoded.specs.Decoded.{diagnosticAt}
+use Rattle.oce_diag.specs.Encoding.{textSubjectKind, connectorSubjectKind, blockSubjectKind}
+use Rattle.subject.specs.Subject.{subjectText}
+use Rattle.oce_diag.specs.Decoded.{diagnosticAt}
 use Rattle.outcome.specs.Answer.{reportOf}
 use Rattle.outcome.specs.declared.Answer.{Answer}
 use Rattle.outcome.specs.declared.Answer.the-variants.{Refused, Checked}
@@ -69,9 +69,9 @@ codeName DisplayUnitDivergence = 0x44 ∷ 0x69 ∷ 0x73 ∷ 0x70 ∷ 0x6C ∷ 0x
 -- '`-` for none', otherwise the subject's text
 unfoldable pub subjectField : List ℕ → Subject → List ℕ
 subjectField s Nothing = dash
-subjectField s (Text t) = subjectText s textSubject t
-subjectField s (Connector i) = subjectText s connectorSubject i
-subjectField s (Block i) = subjectText s blockSubject i
+subjectField s (Text t) = subjectText s textSubjectKind t
+subjectField s (Connector i) = subjectText s connectorSubjectKind i
+subjectField s (Block i) = subjectText s blockSubjectKind i
 
 -- a diagnostic's fields, a space before each but the first
 abbrev pub names : Severity → DiagCode → List ℕ

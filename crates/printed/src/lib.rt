@@ -1,28 +1,33 @@
-// The lines of the printed report, put into a lent buffer.
-use accept::Layout;
+// The numbers of every diagnostic have room in its bytes. No code.
 use decimal::put_bytes;
 use decimal::put_labelled;
 use decimal::put_labelled_byte;
-use decoded::diagnostic_at;
+use image_accept::Layout;
+use image_texts::text_of;
 use oce_diag::DiagCode;
 use oce_diag::Diagnostic;
 use oce_diag::Severity;
 use oce_diag::Subject;
+use oce_diag::diagnostic_at;
 use outcome::Answer;
-use subject::BLOCK_SUBJECT;
-use subject::CONNECTOR_SUBJECT;
+use oce_diag::BLOCK_SUBJECT;
+use oce_diag::CONNECTOR_SUBJECT;
 use subject::put_label;
-use texts::text_of;
 ghost use mathlib.Core.Path.{_≡_};
 ghost use Prim.Native.Nat.{_+_, _<_, _≤_};
 ghost use lib.ListN.{length};
 ghost use Rattle.base.specs.Buffers.{startsWith};
+ghost use Rattle.numbers.specs.Bytes.{wordRange};
 ghost use Rattle.oce_model.specs.Format.{textTag, longestText};
-ghost use Rattle.accept.specs.Layout.{Laid, Tabled};
+ghost use Rattle.image_accept.specs.Layout.{Laid, Tabled};
 ghost use Rattle.decimal.specs.Appending.{Appended};
 ghost use Rattle.outcome.specs.declared.Answer.the-variants.{Refused, Checked};
 ghost use Rattle.printed.specs.Printed.{severityName, codeName, names, ruleAndDetail, subjectField, lineEnd, line, firstLine, longestSeverity, longestCode, longestNames, longestRule, longestEnd, longestLine, longestFirstLine};
 ghost use Rattle.printed.specs.Pieces.{Pieced};
+
+
+
+// The lines of the printed report, put into a lent buffer.
 
 // The next diagnostic to print, and how many bytes of lines stand in the buffer.
 pub struct Piece {
@@ -180,7 +185,7 @@ pub fn put_lines(
     count: usize,
     out: &mut [u8],
 ) -> Piece
-    requires { ⌜ Laid (now image) layout × Tabled textTag (now image) (now texts) × (from ≤ count) × (count < 4294967296) ⌝ }
+    requires { ⌜ Laid (now image) layout × Tabled textTag (now image) (now texts) × (from ≤ count) × (count < wordRange) ⌝ }
     ensures { λ r. ⌜ Pieced (now (image .entry)) (now (report .entry)) from count (now (out .entry)) (now (out .exit)) r ⌝ }
 {
     let mut i = from;

@@ -1,5 +1,4 @@
 -- Laws of `stepAt`, with the code's own tests.
--- Assumes nothing.
 use Prim.Native.Nat.{ℕ, _+_, _<_, _≤_}
 use native.Mathlib.Omega.{arith}
 use mathlib.Core.Path.{_≡_}

@@ -1,11 +1,11 @@
 -- What stands at a place of an image, and the place behind it.
--- Assumes nothing.
 use Prim.Native.Nat.{ℕ, _+_}
 use mathlib.Core.Bool.{Bool, cond}
 use mathlib.Core.List.{List}
 use lib.Dec.{leb}
 use lib.ListN.{length}
 use Rattle.numbers.specs.Bytes.{byte, le16}
+use Rattle.oce_model.specs.Format.{fieldLengthAt}
 use Rattle.oce_model.specs.Image.{fieldEnd}
 use Rattle.reader.specs.declared.Found.{Found}
 use Rattle.reader.specs.declared.Found.the-variants.{Field, End}
@@ -16,7 +16,7 @@ abbrev pub whole : List ℕ → ℕ → Bool
 whole s at = leb (fieldEnd s at) (length s)
 
 abbrev pub foundAt : List ℕ → ℕ → Found
-foundAt s at = cond (whole s at) (Field (byte s at) (le16 s (at + 1))) End
+foundAt s at = cond (whole s at) (Field (byte s at) (le16 s (at + fieldLengthAt))) End
 
 -- behind it; where no whole field stands, the same place
 abbrev pub afterAt : List ℕ → ℕ → ℕ

@@ -1,6 +1,7 @@
 // A reading place that carries the image with it, and goes on field by field.
 use numbers::at16;
 use numbers::byte_at;
+use oce_model::FIELD_LENGTH_AT;
 use oce_model::LEADING_BYTES;
 ghost use mathlib.Core.Path.{_≡_};
 ghost use Rattle.reader.specs.Reading.{foundAt, afterAt, stepAt};
@@ -33,7 +34,7 @@ fn step_at(image: &[u8], at: usize) -> Step
     ensures { λ r. ⌜ r ≡ stepAt (now (image .entry)) at ⌝ }
 {
     if at < image.len() {
-        let len = at16(image, at + 1);
+        let len = at16(image, at + FIELD_LENGTH_AT);
         let end = at + LEADING_BYTES + len;
         if end <= image.len() {
             return Step {

@@ -1,5 +1,4 @@
 -- Each image that is turned away gets its refusal.
--- Assumes nothing.
 use mathlib.Core.Path.{_≡_, refl}
 use mathlib.Core.List.{List, [], _∷_, map, flatten}
 use lib.Ieee.{ofBits, lt}

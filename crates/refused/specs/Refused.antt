@@ -1,5 +1,4 @@
 -- An image for each refusal of document 01, 1 to 10, with the lengths of both buffers and the refusal's number and offset.
--- Assumes nothing.
 use Prim.Native.Nat.{ℕ, _-_}
 use mathlib.Core.List.{List, [], _∷_, _++_, flatten}
 use lib.ListN.{length, replicate, take}

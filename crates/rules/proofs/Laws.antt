@@ -1,5 +1,4 @@
 -- The report of a model from the runs that make it.
--- Assumes nothing.
 use Prim.Native.Nat.{ℕ, zero, suc, _+_, _*_, _<_, _≤_}
 use native.Mathlib.Nat.{zero-add}
 use native.Mathlib.Omega.{arith}
@@ -17,12 +16,12 @@ use Rattle.oce_diag.specs.declared.Counted.{Counted}
 use Rattle.oce_diag.specs.Putting.{total, Put}
 use Rattle.oce_diag.proofs.Diagnostics.{errors-append, no-errors, some-error}
 use Rattle.oce_diag.proofs.Putting.{put-then}
-use Rattle.accept.specs.Layout.{Laid}
-use Rattle.accept.specs.declared.Layout.{Layout}
+use Rattle.image_accept.specs.Layout.{Laid}
+use Rattle.image_accept.specs.declared.Layout.{Layout}
 use Rattle.base.specs.Lists.{any, keep}
-use Rattle.externals.specs.Columns.{half, Lists}
-use Rattle.records.proofs.Laws.{connectors-few, connectors-counted, externals-few, externals-counted}
-use Rattle.slots.specs.Columns.{slotCount}
+use Rattle.structural_externals.specs.Columns.{half, Lists}
+use Rattle.image_records.proofs.Laws.{connectors-few, connectors-counted, externals-few, externals-counted}
+use Rattle.unify_slots.specs.Columns.{slotCount}
 use Rattle.structural.specs.Structural.{rule1, rule2, rule3, rule4}
 use Rattle.crossed_bounds.specs.CrossedBounds.{rule5}
 use Rattle.unify.specs.Unify.{rule6, propagated}

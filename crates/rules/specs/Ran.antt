@@ -1,19 +1,18 @@
 -- What a run over all rules gives.
--- Assumes nothing.
 use Prim.Native.Nat.{ℕ, _+_, _*_, _≤_}
 use mathlib.Core.Path.{_≡_}
 use mathlib.Core.List.{List, _++_}
 use Rattle.oce_model.specs.Format.{textTag, blockTag}
 use Rattle.oce_model.specs.Model.{Model, modelOf}
-use Rattle.accept.specs.Layout.{Laid, Tabled}
-use Rattle.accept.specs.declared.Layout.{Layout}
+use Rattle.image_accept.specs.Layout.{Laid, Tabled}
+use Rattle.image_accept.specs.declared.Layout.{Layout}
 use Rattle.oce_diag.specs.declared.Diagnostic.{Diagnostic}
 use Rattle.oce_diag.specs.declared.Counted.{Counted}
 use Rattle.oce_diag.specs.Putting.{total, Put}
 use Rattle.structural.specs.Structural.{rule1, rule2, rule3, rule4}
 use Rattle.crossed_bounds.specs.CrossedBounds.{rule5}
 use Rattle.unify.specs.Unify.{filledSlots}
-use Rattle.slots.specs.Columns.{slotCount, view, Room}
+use Rattle.unify_slots.specs.Columns.{slotCount, view, Room}
 use Rattle.outcome.specs.Report.{report}
 
 -- an accepted image with its layout and tables, and columns with room for its slots

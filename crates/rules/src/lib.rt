@@ -1,26 +1,26 @@
 // All rules in their order, over one report.
-use accept::Layout;
-use arena_ids::check_arena_ids;
-use assignment::check_single_assignment;
-use crossed::crossed_bounds;
-use degrees::in_degrees;
-use externals::EXTERNALS_COLUMN;
-use externals::list_externals;
+use image_accept::Layout;
+use structural_arena_ids::check_arena_ids;
+use structural_assignment::check_single_assignment;
+use crossed_records::check_crossed_bounds;
+use structural_degrees::in_degrees;
+use structural_externals::EXTERNALS_COLUMN;
+use structural_externals::list_externals;
 use oce_diag::Counted;
 use oce_model::MOST_CONNECTORS;
 use unify_clusters::unify_clusters;
-use wiring::check_boundary_outputs;
-use wiring::check_connections;
+use structural_wiring::check_boundary_outputs;
+use structural_wiring::check_connections;
 ghost use mathlib.Core.List.{_++_};
 ghost use Prim.Native.Nat.{_+_, _*_, _≤_};
 ghost use Rattle.oce_model.specs.Format.{textTag, blockTag};
 ghost use Rattle.oce_model.specs.Model.{modelOf};
 ghost use Rattle.oce_diag.specs.Putting.{total, Put};
-ghost use Rattle.accept.specs.Layout.{Laid, Tabled};
+ghost use Rattle.image_accept.specs.Layout.{Laid, Tabled};
 ghost use Rattle.structural.specs.Structural.{rule1, rule2, rule3, rule4};
-ghost use Rattle.degrees.specs.Columns.{Degrees};
-ghost use Rattle.externals.specs.Columns.{Listed};
-ghost use Rattle.slots.specs.Columns.{slotCount, Room};
+ghost use Rattle.structural_degrees.specs.Columns.{Degrees};
+ghost use Rattle.structural_externals.specs.Columns.{Listed};
+ghost use Rattle.unify_slots.specs.Columns.{slotCount, Room};
 ghost use Rattle.rules.specs.Ran.{fewRecords, firstFive, Ready, Ran};
 
 // So many connectors, and so many external inputs, have shorter columns, which are sooner cleared.
@@ -75,7 +75,7 @@ fn first_five<'a>(
 {
     let a = ids_and_outputs(image, layout, blocks, report, counted);
     let b = assignments_and_connections(image, layout, degrees, externals, report, a);
-    crossed_bounds(image, layout, texts, externals, report, b)
+    check_crossed_bounds(image, layout, texts, externals, report, b)
 }
 
 // All rules, over columns of in-degrees and external ids.

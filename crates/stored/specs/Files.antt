@@ -1,5 +1,4 @@
 -- Files of stored answers, as docs/STORED_ANSWERS.md has them.
--- Assumes nothing.
 use Prim.Native.Nat.{ℕ, _+_}
 use mathlib.Core.Bool.{Bool, _&&_, cond}
 use mathlib.Core.List.{List}

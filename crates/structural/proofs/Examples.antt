@@ -1,5 +1,4 @@
 -- What rules 1 to 4 report of the models, in their order.
--- Assumes nothing.
 use Prim.Native.Nat.{ℕ}
 use mathlib.Core.Path.{_≡_, refl}
 use mathlib.Core.List.{List, [], _∷_, _++_, map}

@@ -1,5 +1,4 @@
 -- In-degrees, as `in_degrees` in rules/mod.rs counts them, and external inputs.
--- Assumes nothing.
 use Prim.Native.Nat.{ℕ}
 use mathlib.Core.Bool.{Bool, cond}
 use lib.Dec.{eqb}

@@ -1,5 +1,4 @@
 -- Rules 1 to 4 of document 01. Each is the list of its diagnostics, in order.
--- Assumes nothing.
 use Prim.Native.Nat.{ℕ}
 use mathlib.Core.Bool.{Bool, cond, not, _&&_}
 use mathlib.Core.List.{List, [], _∷_, _++_}

@@ -1,5 +1,4 @@
 -- The texts of subjects of the image of 78 bytes; the longest label with an id just fills the least scratch.
--- Assumes nothing.
 use mathlib.Core.Path.{_≡_, refl}
 use mathlib.Core.List.{map}
 use Rattle.oce_model.specs.Examples.{written}

@@ -1,5 +1,4 @@
 -- Laws of a subject's text: what is put, written and read in each case, and that reading after writing gives it.
--- Assumes nothing.
 use Prim.Native.Nat.{ℕ, _+_, _≤_, _<_}
 use native.Mathlib.Omega.{arith}
 use mathlib.Core.Path.{_≡_, refl, sym, ap, _∙_}
@@ -15,31 +14,32 @@ use Rattle.base.specs.Buffers.{startsWith}
 use Rattle.base.proofs.Buffers.{startsWith-none, startsWith-length}
 use Rattle.oce_model.specs.Model.{modelOf, text}
 use Rattle.oce_model.specs.Refusals.{Refusal, refusal}
-use Rattle.accept.specs.Layout.{Laid, acceptance, accepts}
-use Rattle.accept.specs.declared.Acceptance.{Acceptance}
-use Rattle.accept.specs.declared.Acceptance.the-variants.{Refused, Accepted}
-use Rattle.accept.specs.declared.Layout.{Layout}
-use Rattle.accept.proofs.Answers.{accepted-laid}
+use Rattle.image_accept.specs.Layout.{Laid, acceptance, accepts}
+use Rattle.image_accept.specs.declared.Acceptance.{Acceptance}
+use Rattle.image_accept.specs.declared.Acceptance.the-variants.{Refused, Accepted}
+use Rattle.image_accept.specs.declared.Layout.{Layout}
+use Rattle.image_accept.proofs.Answers.{accepted-laid}
 use Rattle.decimal.specs.Decimal.{decimal}
 use Rattle.decimal.specs.Appending.{Appended}
 use Rattle.decimal.proofs.Decimal.{decimal-few}
 use Rattle.decimal.proofs.Appending.{appended-none, appended-start}
-use Rattle.subject.specs.Subject.{textSubject, connectorSubject, blockSubject, connectorLabel, blockLabel, leastScratch, labelled, unlessRefused, subjectText, ifRoom, written, scratchAfter, partOf, part}
+use Rattle.oce_diag.specs.Encoding.{textSubjectKind, connectorSubjectKind, blockSubjectKind}
+use Rattle.subject.specs.Subject.{connectorLabel, blockLabel, leastScratch, labelled, unlessRefused, subjectText, ifRoom, written, scratchAfter, partOf, part}
 
 -- ---- a label and an id
 
 module _ (kind n : ℕ) {b : List ℕ} {at : ℕ} where
-  pub put-connector : {b′ : List ℕ} {r : ℕ} → Appended b at (connectorLabel ++ decimal n) b′ r → kind ≡ connectorSubject → Appended b at (labelled kind n) b′ r
+  pub put-connector : {b′ : List ℕ} {r : ℕ} → Appended b at (connectorLabel ++ decimal n) b′ r → kind ≡ connectorSubjectKind → Appended b at (labelled kind n) b′ r
   unfolding labelled
-  put-connector v e = rw (eq-eqb kind connectorSubject e) v
+  put-connector v e = rw (eq-eqb kind connectorSubjectKind e) v
 
-  pub put-block : {b′ : List ℕ} {r : ℕ} → Appended b at (blockLabel ++ decimal n) b′ r → kind ≢ connectorSubject → kind ≡ blockSubject → Appended b at (labelled kind n) b′ r
+  pub put-block : {b′ : List ℕ} {r : ℕ} → Appended b at (blockLabel ++ decimal n) b′ r → kind ≢ connectorSubjectKind → kind ≡ blockSubjectKind → Appended b at (labelled kind n) b′ r
   unfolding labelled
-  put-block v d e = rw (ne-eqb kind connectorSubject d, eq-eqb kind blockSubject e) v
+  put-block v d e = rw (ne-eqb kind connectorSubjectKind d, eq-eqb kind blockSubjectKind e) v
 
-  pub put-neither : at + leastScratch ≤ length b → kind ≢ connectorSubject → kind ≢ blockSubject → Appended b at (labelled kind n) b at
+  pub put-neither : at + leastScratch ≤ length b → kind ≢ connectorSubjectKind → kind ≢ blockSubjectKind → Appended b at (labelled kind n) b at
   unfolding labelled
-  put-neither h d e = rw (ne-eqb kind connectorSubject d, ne-eqb kind blockSubject e) (appended-none (omega arith))
+  put-neither h d e = rw (ne-eqb kind connectorSubjectKind d, ne-eqb kind blockSubjectKind e) (appended-none (omega arith))
 
 -- ---- where there is room
 
@@ -73,13 +73,13 @@ module _ (xs bs : List ℕ) where
 -- ---- a part of an accepted image or of the scratch
 
 module _ (s xs : List ℕ) (kind n : ℕ) {r : List ℕ} where
-  pub part-text : r ≡ text (modelOf s) n → kind ≡ textSubject → r ≡ partOf s xs kind n
+  pub part-text : r ≡ text (modelOf s) n → kind ≡ textSubjectKind → r ≡ partOf s xs kind n
   unfolding partOf
-  part-text e h = rw (eq-eqb kind textSubject h) e
+  part-text e h = rw (eq-eqb kind textSubjectKind h) e
 
-  pub part-label : r ≡ take (length (ifRoom xs (labelled kind n))) xs → kind ≢ textSubject → r ≡ partOf s xs kind n
+  pub part-label : r ≡ take (length (ifRoom xs (labelled kind n))) xs → kind ≢ textSubjectKind → r ≡ partOf s xs kind n
   unfolding partOf
-  part-label e h = rw (ne-eqb kind textSubject h) e
+  part-label e h = rw (ne-eqb kind textSubjectKind h) e
 
 -- ---- whether the image is refused
 
@@ -123,15 +123,15 @@ module _ (s xs : List ℕ) (kind n : ℕ) {a : Acceptance} (e : a ≡ acceptance
 -- ---- the text of a subject of an accepted image
 
 module _ {s : List ℕ} {l : Layout} (h : Laid s l) (n : ℕ) where
-  pub text-subject : subjectText s textSubject n ≡ text (modelOf s) n
+  pub text-subject : subjectText s textSubjectKind n ≡ text (modelOf s) n
   unfolding subjectText
   text-subject = rw (h .accepted)
 
-  pub connector-subject : subjectText s connectorSubject n ≡ labelled connectorSubject n
+  pub connector-subject : subjectText s connectorSubjectKind n ≡ labelled connectorSubjectKind n
   unfolding subjectText
   connector-subject = rw (h .accepted)
 
-  pub block-subject : subjectText s blockSubject n ≡ labelled blockSubject n
+  pub block-subject : subjectText s blockSubjectKind n ≡ labelled blockSubjectKind n
   unfolding subjectText
   block-subject = rw (h .accepted)
 
@@ -140,7 +140,7 @@ module _ {s : List ℕ} {l : Layout} (h : Laid s l) (n : ℕ) where
 -- a label with an id has at most 20 bytes
 pub labelled-few : (kind n : ℕ) → length (labelled kind n) ≤ leastScratch
 unfolding labelled
-labelled-few kind n = arm (eqb kind connectorSubject) (eqb kind blockSubject)
+labelled-few kind n = arm (eqb kind connectorSubjectKind) (eqb kind blockSubjectKind)
   where
     arm : (a b : Bool) → length (cond a (connectorLabel ++ decimal n) (cond b (blockLabel ++ decimal n) [])) ≤ leastScratch
     arm true b = rw length-append (let d = decimal-few n in omega arith)
@@ -172,7 +172,7 @@ module _ (s xs : List ℕ) (kind n : ℕ) (h : leastScratch ≤ length xs) where
 
   by-refusal : (o : Option Refusal) → refusal s ≡ o → part s (scratchAfter s kind n xs) kind n ≡ subjectText s kind n
   unfolding part partOf subjectText bs
-  by-refusal none e = rw (after e, e) (choose (eqb kind textSubject))
+  by-refusal none e = rw (after e, e) (choose (eqb kind textSubjectKind))
   by-refusal (some r) e = rw e
 
   -- a subject's text is read where it was written, in a scratch that has room

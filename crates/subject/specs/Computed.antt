@@ -1,5 +1,4 @@
 -- Every definition of this crate and of those below it, opened: a claim that is `unfolding computed` computes.
--- Assumes nothing.
 use Prim.Native.Nat.{ℕ}
 use Rattle.oce_diag.specs.Computed.{computed as computedDiagnostics}
 use Rattle.decimal.specs.Computed.{computed as computedDecimal}

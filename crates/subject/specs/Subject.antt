@@ -1,6 +1,5 @@
 -- A subject's text. Document 01, 'Port order and changes of shape': 'a subject's text is handed out as a part of the image or of the caller's scratch, the latter
 -- for `connector#` and `block#`'. A subject is given by its kind and number, as a diagnostic's bytes have them.
--- Assumes nothing.
 use Prim.Native.Nat.{ℕ}
 use mathlib.Core.Bool.{cond}
 use mathlib.Core.List.{List, [], _∷_, _++_}
@@ -10,19 +9,8 @@ use lib.ListN.{length, take}
 use Rattle.base.specs.Buffers.{startsWith}
 use Rattle.oce_model.specs.Model.{modelOf, text}
 use Rattle.oce_model.specs.Refusals.{Refusal, refusal}
-use Rattle.oce_diag.specs.Encoding.{subjectKind}
-use Rattle.oce_diag.specs.declared.Subject.the-variants.{Text, Connector, Block}
+use Rattle.oce_diag.specs.Encoding.{textSubjectKind, connectorSubjectKind, blockSubjectKind}
 use Rattle.decimal.specs.Decimal.{decimal}
-
--- the kinds that have a text, by a diagnostic's numbers for them
-abbrev pub textSubject : ℕ
-textSubject = subjectKind (Text 0)
-
-abbrev pub connectorSubject : ℕ
-connectorSubject = subjectKind (Connector 0)
-
-abbrev pub blockSubject : ℕ
-blockSubject = subjectKind (Block 0)
 
 -- `connector#` and `block#`
 abbrev pub connectorLabel : List ℕ
@@ -34,8 +22,8 @@ blockLabel = 0x62 ∷ 0x6C ∷ 0x6F ∷ 0x63 ∷ 0x6B ∷ 0x23 ∷ []
 -- '`connector#` and its id', '`block#` and its id'; another kind has no such text
 unfoldable pub labelled : ℕ → ℕ → List ℕ
 labelled kind number =
-    cond (eqb kind connectorSubject) (connectorLabel ++ decimal number)
-    (cond (eqb kind blockSubject) (blockLabel ++ decimal number) [])
+    cond (eqb kind connectorSubjectKind) (connectorLabel ++ decimal number)
+    (cond (eqb kind blockSubjectKind) (blockLabel ++ decimal number) [])
 
 -- 'an image turned away by 1 to 8' gives none
 abbrev pub unlessRefused : Option Refusal → List ℕ → List ℕ
@@ -45,7 +33,7 @@ unlessRefused (some r) bs = []
 -- the text of a subject: a text's bytes in the image, or a label and an id; none for 'no subject, another subject kind, a text number out of range and an image turned
 -- away by 1 to 8'
 unfoldable pub subjectText : List ℕ → ℕ → ℕ → List ℕ
-subjectText s kind number = unlessRefused (refusal s) (cond (eqb kind textSubject) (text (modelOf s) number) (labelled kind number))
+subjectText s kind number = unlessRefused (refusal s) (cond (eqb kind textSubjectKind) (text (modelOf s) number) (labelled kind number))
 
 -- 'fewer than 20 scratch bytes then give an empty part, nothing written'
 abbrev pub leastScratch : ℕ
@@ -64,7 +52,7 @@ scratchAfter s kind number scratch = startsWith (written s kind number scratch) 
 -- 'a second only reads both': the part of an accepted image or of the scratch that it hands out, and that of any image
 unfoldable pub partOf : List ℕ → List ℕ → ℕ → ℕ → List ℕ
 partOf s scratch kind number =
-    cond (eqb kind textSubject) (text (modelOf s) number) (take (length (ifRoom scratch (labelled kind number))) scratch)
+    cond (eqb kind textSubjectKind) (text (modelOf s) number) (take (length (ifRoom scratch (labelled kind number))) scratch)
 
 unfoldable pub part : List ℕ → List ℕ → ℕ → ℕ → List ℕ
 part s scratch kind number = unlessRefused (refusal s) (partOf s scratch kind number)

@@ -1,27 +1,23 @@
 // A subject's text, as a part of the image or of the caller's scratch.
-use accept::Acceptance;
-use accept::Layout;
-use accept::accept;
+use image_accept::Acceptance;
+use image_accept::Layout;
+use image_accept::accept;
 use base::part_of;
 use decimal::put_labelled;
+use oce_diag::BLOCK_SUBJECT;
+use oce_diag::CONNECTOR_SUBJECT;
+use oce_diag::TEXT_SUBJECT;
 use oce_model::MOST_BLOCKS;
 use oce_model::MOST_TEXTS;
-use texts::text_of;
+use image_texts::text_of;
 ghost use mathlib.Core.Path.{_≡_};
 ghost use Prim.Native.Nat.{_+_, _≤_};
 ghost use lib.ListN.{length, take};
 ghost use Rattle.base.specs.Buffers.{startsWith};
 ghost use Rattle.oce_model.specs.Format.{textTag};
-ghost use Rattle.accept.specs.Layout.{Laid, Tabled};
+ghost use Rattle.image_accept.specs.Layout.{Laid, Tabled};
 ghost use Rattle.decimal.specs.Appending.{Appended};
 ghost use Rattle.subject.specs.Subject.{leastScratch, labelled, ifRoom, written, scratchAfter, partOf, part};
-
-// The subject kinds that have a text, as a diagnostic's bytes have them.
-pub const TEXT_SUBJECT: u8 = 1;
-
-pub const CONNECTOR_SUBJECT: u8 = 2;
-
-pub const BLOCK_SUBJECT: u8 = 3;
 
 // The longest label with the longest id has as many bytes.
 pub const LEAST_SCRATCH: usize = 20;

@@ -1,5 +1,4 @@
 -- What attributes declare, after one more is declared: the details don't disturb each other.
--- Assumes nothing.
 use Prim.Native.Nat.{ℕ, _<_}
 use mathlib.Core.Path.{_≡_, refl, sym, ap, _∙_}
 use mathlib.Core.Logic.{_≢_}

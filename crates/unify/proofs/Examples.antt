@@ -1,5 +1,4 @@
 -- What rule 6 reports of the models, in their order: details 1 to 7, and what detail 8 would report if it were asked.
--- Assumes nothing.
 use Prim.Native.Nat.{ℕ}
 use mathlib.Core.Path.{_≡_, refl}
 use mathlib.Core.List.{List, [], _∷_, map}

@@ -1,5 +1,4 @@
 -- What `put` leaves alone of attributes, rule 6 leaves alone in every slot.
--- Assumes nothing.
 use Prim.Native.Nat.{ℕ, zero, suc, _+_, _<_}
 use native.Mathlib.Decide.{ℕ-discrete, decLt}
 use native.Mathlib.Omega.{arith}

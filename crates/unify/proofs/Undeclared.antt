@@ -1,5 +1,4 @@
 -- A detail that no member declares: it fills nothing, it reports nothing, and no other detail's filling changes that.
--- Assumes nothing.
 use Prim.Native.Nat.{ℕ, zero, suc, _+_}
 use native.Mathlib.Decide.{ℕ-discrete}
 use mathlib.Core.Path.{_≡_, refl, sym, ap, _∙_}

@@ -1,6 +1,5 @@
 -- Clusters of rule 6: a root, and the slots that it drives. Document 01: 'A cluster: a root, then each `to` of its in-range connections whose in-degree is 1,
 -- in connection order, then its boundary outputs that rule 2 found no fault in. A root has at least one of either; roots ascend, and an In may be one'.
--- Assumes nothing.
 use Prim.Native.Nat.{ℕ, _+_}
 use mathlib.Core.Bool.{Bool, not, _&&_}
 use mathlib.Core.List.{List, _++_}

@@ -1,6 +1,5 @@
 -- The attributes that rule 6 reads and fills, and what it unifies of them. Document 01, rule 6: 'For unit, quantity, Real min, Real max, Integer min, Integer max
 -- (details 1 to 6): over members of that kind, texts agree by bytes, Real ends when their 64 bits are equal, Integer ends by number'. Standard 231, §7.10.
--- Assumes nothing.
 use Prim.Native.Nat.{ℕ}
 use mathlib.Core.Bool.{Bool, cond}
 use mathlib.Core.List.{List, [], _∷_, _++_, map}

@@ -1,5 +1,4 @@
 -- Rule 6 of document 01, `unify_clusters` (Standard 231, §7.10; R13.1 to R13.4 of the Rust's comments).
--- Assumes nothing.
 use Prim.Native.Nat.{ℕ, _+_}
 use mathlib.Core.Bool.{Bool, false, cond, not, _&&_}
 use mathlib.Core.List.{List, [], _∷_, _++_}

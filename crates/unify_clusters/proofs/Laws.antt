@@ -1,5 +1,4 @@
 -- Laws of all of rule 6.
--- Assumes nothing.
 use Prim.Native.Nat.{ℕ, _+_, _≤_, _<_}
 use native.Mathlib.Omega.{arith}
 use mathlib.Core.Path.{_≡_, sym, _∙_}
@@ -10,17 +9,17 @@ use mir.Val.{Fits}
 use borrow.Author.Tests.{eq-eqb, ne-eqb}
 use Rattle.oce_model.specs.Format.{textTag, mostConnectors}
 use Rattle.oce_model.specs.Model.{Model, modelOf, connectorCount}
-use Rattle.accept.specs.Layout.{Laid, Tabled}
-use Rattle.accept.specs.declared.Layout.{Layout}
-use Rattle.records.proofs.Laws.{connectors-counted, connections-counted, outputs-counted, connectors-few, connections-few, boundary-outputs-few}
+use Rattle.image_accept.specs.Layout.{Laid, Tabled}
+use Rattle.image_accept.specs.declared.Layout.{Layout}
+use Rattle.image_records.proofs.Laws.{connectors-counted, connections-counted, outputs-counted, connectors-few, connections-few, boundary-outputs-few}
 use Rattle.oce_diag.specs.declared.Counted.{Counted}
 use Rattle.oce_diag.proofs.Putting.{put-then}
-use Rattle.slots.specs.Columns.{slotCount}
-use Rattle.slots_image.specs.Loading.{Read}
-use Rattle.links.specs.Links.{linkCount, Empty, Linked}
-use Rattle.roots.specs.Roots.{Stage, Unified as Rooted}
-use Rattle.propagated.specs.Propagated.{Propagated, Stage as Filled}
-use Rattle.propagated.proofs.Laws.{linked-headed}
+use Rattle.unify_slots.specs.Columns.{slotCount}
+use Rattle.unify_slots.specs.Loading.{Read}
+use Rattle.unify_links.specs.Links.{linkCount, Empty, Linked}
+use Rattle.unify_clusters.specs.Roots.{Stage, AllRooted as Rooted}
+use Rattle.unify_propagated.specs.Propagated.{Propagated, Stage as Filled}
+use Rattle.unify_propagated.proofs.Laws.{linked-headed}
 use Rattle.unify_clusters.specs.Unified.{mostLinks, fewConnectors, fewLinks, wholeRule6, Unified}
 
 -- ---- roots, and the test of their ranges

@@ -1,5 +1,4 @@
 -- The report of all rules, as what rule 6 adds to the rules before it.
--- Assumes nothing.
 use Prim.Native.Nat.{ℕ, _+_, _<_}
 use native.Mathlib.Omega.{arith}
 use mathlib.Core.Path.{_≡_, refl, sym, ap, _∙_}

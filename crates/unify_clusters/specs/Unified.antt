@@ -1,5 +1,4 @@
 -- All of rule 6.
--- Assumes nothing.
 use Prim.Native.Nat.{ℕ, _+_, _*_, _≤_}
 use mathlib.Core.Path.{_≡_}
 use mathlib.Core.Bool.{cond}
@@ -12,7 +11,7 @@ use Rattle.oce_diag.specs.declared.Diagnostic.{Diagnostic}
 use Rattle.oce_diag.specs.declared.Counted.{Counted}
 use Rattle.oce_diag.specs.Putting.{total, Put}
 use Rattle.unify.specs.Unify.{filledSlots, rule6, propagated}
-use Rattle.slots.specs.Columns.{slotCount, view, Room}
+use Rattle.unify_slots.specs.Columns.{slotCount, view, Room}
 
 -- the most links that an accepted image has
 abbrev pub mostLinks : ℕ

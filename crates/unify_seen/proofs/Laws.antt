@@ -1,5 +1,4 @@
 -- Laws of what the members of a cluster declare.
--- Assumes nothing.
 use Prim.Native.Nat.{ℕ, zero, suc, _+_, _/_, _%_, _^_, _≤_, _<_}
 use native.Mathlib.Nat.{mod-lt, zero-div}
 use native.Mathlib.Decide.{ℕ-discrete}
@@ -16,8 +15,8 @@ use Rattle.numbers.specs.Bytes.{bit}
 use Rattle.oce_model.specs.Format.{realKind, integerKind}
 use Rattle.unify.specs.Slots.{Slots, slot, kindOf, bitOf, value}
 use Rattle.unify.specs.Unify.{declared}
-use Rattle.slots.specs.Columns.{view, declares, Inside}
-use Rattle.slots.proofs.Laws.{value-view}
+use Rattle.unify_slots.specs.Columns.{view, declares, Inside}
+use Rattle.unify_slots.proofs.Laws.{value-view}
 use Rattle.unify_seen.specs.Seen.{Holds, TakenIn, Sees, shows}
 
 -- ---- bits

@@ -1,5 +1,4 @@
 -- What the members of a cluster declare, in two bytes: the marks of its Real members and those of its Integer members.
--- Assumes nothing.
 use Prim.Native.Nat.{ℕ, _≤_, _<_}
 use mathlib.Core.Path.{_≡_}
 use mathlib.Core.Bool.{Bool, false, cond}

@@ -2,16 +2,16 @@
 use numbers::wide;
 use oce_model::INTEGER_KIND;
 use oce_model::REAL_KIND;
-use slots::bit_of;
-use slots::is_marked;
-use slots::kind_of;
+use unify_slots::bit_of;
+use unify_slots::is_marked;
+use unify_slots::kind_of;
 ghost use mathlib.Core.Path.{_≡_};
 ghost use mathlib.Core.Bool.{_&&_};
 ghost use Prim.Native.Nat.{_≤_};
 ghost use lib.Dec.{eqb};
 ghost use lib.ListN.{length};
 ghost use Rattle.unify.specs.Slots.{displayDetail};
-ghost use Rattle.slots.specs.Columns.{Inside};
+ghost use Rattle.unify_slots.specs.Columns.{Inside};
 ghost use Rattle.unify_seen.specs.Seen.{TakenIn, Sees, shows};
 
 // The marks of all Real members in one byte, those of all Integer members in another.

@@ -1,5 +1,4 @@
 -- `agreement::diagnostics_agree` meets its contract: it ends.
--- Assumes nothing.
 use borrow.Author.Needs.{needs}
 use Prim.Native.Nat.{_-_, _≤_}
 use Rattle.agreement.proofs.diagnostics_agree.Statement.{statement}

@@ -1,5 +1,4 @@
 -- `agreement::put_all` meets its contract: it ends.
--- Assumes nothing.
 use borrow.Author.Needs.{needs}
 use Prim.Native.Nat.{_-_, _≤_}
 use mathlib.Core.Path.{_≡_}

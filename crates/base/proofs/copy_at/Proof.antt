@@ -1,5 +1,4 @@
 -- `base::copy_at` meets its contract: after i turns i bytes are pasted.
--- Assumes nothing.
 use mathlib.Core.Path.{_≡_, refl, sym, _∙_}
 use mathlib.Core.List.{List}
 use Prim.Native.Nat.{ℕ, _+_, _-_, _≤_, _<_}

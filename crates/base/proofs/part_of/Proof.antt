@@ -1,5 +1,4 @@
 -- `base::part_of` meets its contract: past the end, up to the end, or len bytes.
--- Assumes nothing.
 use mathlib.Core.Path.{_≡_, sym, _∙_}
 use mathlib.Core.List.{List}
 use Prim.Native.Nat.{ℕ, _+_, _-_, _≤_}

@@ -1,5 +1,4 @@
 -- `crossed_buckets::bucket_of` meets its contract.
--- Assumes nothing.
 use borrow.Author.Needs.{needs}
 use Rattle.crossed_buckets.proofs.Laws.{bucket-short, bucket-long}
 use Rattle.crossed_buckets.proofs.bucket_of.Statement.{statement}

@@ -1,5 +1,4 @@
 -- `crossed_buckets::collect_crowded` meets its contract.
--- Assumes nothing.
 use borrow.Author.Needs.{needs}
 use native.Mathlib.Omega.{arith}
 use mathlib.Core.Path.{ap}

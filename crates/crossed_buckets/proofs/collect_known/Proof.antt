@@ -1,5 +1,4 @@
 -- `crossed_buckets::collect_known` meets its contract.
--- Assumes nothing.
 use borrow.Author.Needs.{needs}
 use Prim.Native.Nat.{_-_}
 use Rattle.crossed_buckets.proofs.Laws.{Collects, collects-start, collects-turn, collects-all}

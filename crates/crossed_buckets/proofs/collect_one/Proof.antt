@@ -1,5 +1,4 @@
 -- `crossed_buckets::collect_one` meets its contract.
--- Assumes nothing.
 use borrow.Author.Needs.{needs}
 use Rattle.crossed_buckets.proofs.Laws.{collect-yes, collect-no, collect-out}
 use Rattle.crossed_buckets.proofs.collect_one.Statement.{statement}

@@ -1,5 +1,4 @@
 -- `crossed_buckets::note_in` meets its contract.
--- Assumes nothing.
 use borrow.Author.Needs.{needs}
 use Rattle.crossed_buckets.proofs.Laws.{noted-turn, noted-skip}
 use Rattle.crossed_buckets.proofs.note_in.Statement.{statement}

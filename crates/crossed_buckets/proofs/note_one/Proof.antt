@@ -1,5 +1,4 @@
 -- `crossed_buckets::note_one` meets its contract.
--- Assumes nothing.
 use borrow.Author.Needs.{needs}
 use Rattle.crossed_buckets.proofs.Laws.{set-same}
 use Rattle.crossed_buckets.proofs.note_one.Statement.{statement}

@@ -1,5 +1,4 @@
 -- `crossed_buckets::place_of` meets its contract.
--- Assumes nothing.
 use borrow.Author.Needs.{needs}
 use Rattle.crossed_buckets.proofs.Laws.{place-bucket, place-none}
 use Rattle.crossed_buckets.proofs.place_of.Statement.{statement}

@@ -1,5 +1,4 @@
 -- `crossed_buckets::with_member` meets its contract.
--- Assumes nothing.
 use borrow.Author.Needs.{needs}
 use Rattle.crossed_buckets.proofs.Laws.{noted-external, noted-inner, noted-joined, noted-more, noted-several}
 use Rattle.crossed_buckets.proofs.with_member.Statement.{statement}

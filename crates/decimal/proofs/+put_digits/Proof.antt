@@ -1,5 +1,4 @@
 -- `decimal::put_digits` meets its contract: the digits of n / 10, then the last one. The measure is n.
--- Assumes nothing.
 use Prim.Native.Nat.{ℕ, _+_, _/_, _%_, _<_, _≤_}
 use native.Mathlib.Omega.{arith}
 use mathlib.Core.Path.{_≡_, sym, ap, _∙_}

@@ -1,5 +1,4 @@
 -- `decimal::put_byte_number` meets its contract: a byte has at most three digits.
--- Assumes nothing.
 use Prim.Native.Nat.{ℕ, _+_, _≤_, _<_}
 use native.Mathlib.Omega.{arith}
 use mathlib.Core.List.{List}

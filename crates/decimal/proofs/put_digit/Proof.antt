@@ -1,5 +1,4 @@
 -- `decimal::put_digit` meets its contract: one byte is set.
--- Assumes nothing.
 use borrow.Author.Needs.{needs}
 use Rattle.decimal.proofs.Appending.{appended-one}
 use Rattle.decimal.proofs.put_digit.Statement.{statement}

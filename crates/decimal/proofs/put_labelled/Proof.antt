@@ -1,5 +1,4 @@
 -- `decimal::put_labelled` meets its contract: the number behind the label.
--- Assumes nothing.
 use borrow.Author.Needs.{needs}
 use Rattle.decimal.proofs.Appending.{appended-then}
 use Rattle.decimal.proofs.put_labelled.Statement.{statement}

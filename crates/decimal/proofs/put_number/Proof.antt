@@ -1,5 +1,4 @@
 -- `decimal::put_number` meets its contract: a number of 32 bits has at most ten digits.
--- Assumes nothing.
 use Prim.Native.Nat.{ℕ, _+_, _≤_}
 use native.Mathlib.Omega.{arith}
 use mathlib.Core.List.{List}

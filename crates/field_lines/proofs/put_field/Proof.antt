@@ -1,5 +1,4 @@
 -- `field_lines::put_field` meets its contract: one behind the other.
--- Assumes nothing.
 use borrow.Author.Needs.{needs}
 use Rattle.decimal.proofs.Appending.{appended-four}
 use Rattle.field_lines.specs.Lines.{fieldLine}

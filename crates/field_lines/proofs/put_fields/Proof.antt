@@ -1,5 +1,4 @@
 -- `field_lines::put_fields` meets its contract: the fields up to the offset at are listed.
--- Assumes nothing.
 use Prim.Native.Nat.{_-_}
 use lib.ListN.{length}
 use borrow.Author.Needs.{needs}

@@ -1,5 +1,4 @@
 -- `field_lines::put_found` meets its contract.
--- Assumes nothing.
 use borrow.Author.Needs.{needs}
 use Rattle.field_lines.proofs.Laws.{found-field, found-none}
 use Rattle.field_lines.proofs.put_found.Statement.{statement}

@@ -1,5 +1,4 @@
 -- `filling::copy_image` meets its contract.
--- Assumes nothing.
 use borrow.Author.Needs.{needs}
 use Rattle.base.proofs.Buffers.{startsWith-patch}
 use Rattle.filling.proofs.copy_image.Statement.{statement}

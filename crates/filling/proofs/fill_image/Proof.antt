@@ -1,5 +1,4 @@
 -- `filling::fill_image` meets its contract.
--- Assumes nothing.
 use borrow.Author.Needs.{needs}
 use Prim.Native.Nat.{_-_}
 use Rattle.filling.proofs.Laws.{Fills, fills-start, fills-inside, fills-room, fills-fit, fills-turn, fills-done}

@@ -1,5 +1,4 @@
 -- `filling::slot_offset` meets its contract.
--- Assumes nothing.
 use borrow.Author.Needs.{needs}
 use Rattle.filling.proofs.Laws.{connector-offset, connector-near, output-offset, output-near}
 use Rattle.filling.proofs.slot_offset.Statement.{statement}

@@ -1,5 +1,4 @@
 -- `filling::store_ends` meets its contract: three parts that are written one behind the other are one.
--- Assumes nothing.
 use borrow.Author.Needs.{needs}
 use Rattle.filling.proofs.Laws.{patch-numbers}
 use Rattle.filling.proofs.store_ends.Statement.{statement}

@@ -1,5 +1,4 @@
 -- `filling::store_slot` meets its contract.
--- Assumes nothing.
 use borrow.Author.Needs.{needs}
 use Rattle.filling.proofs.Laws.{patch-slot}
 use Rattle.filling.proofs.store_slot.Statement.{statement}

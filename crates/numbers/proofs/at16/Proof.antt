@@ -1,5 +1,4 @@
 -- `numbers::at16` meets its contract: two bytes, 0 past the end.
--- Assumes nothing.
 use borrow.Author.Needs.{needs}
 use Rattle.numbers.proofs.Bytes.{le-past}
 use Rattle.numbers.specs.Bytes.{le}

@@ -1,5 +1,4 @@
 -- `numbers::at32` meets its contract: the two halves, 0 past the end.
--- Assumes nothing.
 use native.Mathlib.Omega.{arith}
 use borrow.Author.Needs.{needs}
 use Rattle.numbers.proofs.Bytes.{le-past, le-lower, le-halves}

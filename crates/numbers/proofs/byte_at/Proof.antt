@@ -1,5 +1,4 @@
 -- `numbers::byte_at` meets its contract: past the end there is nothing but 0.
--- Assumes nothing.
 use borrow.Author.Needs.{needs}
 use Rattle.numbers.proofs.Bytes.{byte-past}
 use Rattle.numbers.proofs.byte_at.Statement.{statement}

@@ -1,5 +1,4 @@
 -- `numbers::int_of_bits` meets its contract: the upper half is counted down from -1.
--- Assumes nothing.
 use borrow.Author.Needs.{needs}
 use Rattle.numbers.specs.Bytes.{signed64}
 use Rattle.numbers.proofs.Values.{high-fits, high-bits}

@@ -1,5 +1,4 @@
 -- `numbers::is_finite` meets its contract: a finite number lies between the infinities.
--- Assumes nothing.
 use lib.Ieee.{nanBits}
 use Rattle.numbers.proofs.Values.{finite-by, not-finite}
 use Rattle.numbers.proofs.is_finite.Statement.{statement}

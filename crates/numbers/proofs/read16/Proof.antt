@@ -1,5 +1,4 @@
 -- `numbers::read16` meets its contract: two bytes, as the definition has them.
--- Assumes nothing.
 use borrow.Author.Needs.{needs}
 use Rattle.numbers.specs.Bytes.{le}
 use Rattle.numbers.proofs.read16.Statement.{statement}

@@ -1,5 +1,4 @@
 -- `numbers::read64` meets its contract: the two halves are the number.
--- Assumes nothing.
 use borrow.Author.Needs.{needs}
 use Rattle.numbers.proofs.Bytes.{le-halves}
 use Rattle.numbers.proofs.read64.Statement.{statement}

@@ -1,5 +1,4 @@
 -- `numbers::real_of_bits` meets its contract: `0.0 / 0.0` computes to the NaN.
--- Assumes nothing.
 use native.Mathlib.Omega.{arith}
 use lib.Ieee.{div, ofBits}
 use borrow.Author.Needs.{needs}

@@ -1,5 +1,4 @@
 -- `numbers::write16` meets its contract: the two bytes are those of the definition.
--- Assumes nothing.
 use borrow.Author.Needs.{needs}
 use Rattle.numbers.specs.Bytes.{leBytes}
 use Rattle.numbers.proofs.write16.Statement.{statement}

@@ -1,5 +1,4 @@
 -- `numbers::write32` meets its contract: the two halves are the number.
--- Assumes nothing.
 use borrow.Author.Needs.{needs}
 use Rattle.numbers.proofs.Bytes.{patch-halves}
 use Rattle.numbers.proofs.write32.Statement.{statement}

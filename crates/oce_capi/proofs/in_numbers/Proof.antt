@@ -1,5 +1,4 @@
 -- `oce_capi::in_numbers` meets its contract.
--- Assumes nothing.
 use borrow.Author.Needs.{needs}
 use Rattle.oce_capi.proofs.Laws.{numbers-refused, numbers-checked}
 use Rattle.oce_capi.proofs.in_numbers.Statement.{statement}

@@ -1,5 +1,4 @@
 -- `oce_capi::oce_check` meets its contract: that of the checking call, with the answer in numbers.
--- Assumes nothing.
 use borrow.Author.Needs.{needs}
 use mathlib.Core.Path.{ap, _∙_}
 use Rattle.oce_capi.specs.Numbers.{numbers}

@@ -1,5 +1,4 @@
 -- `oce_diag::block_subject_of` meets its contract: a block's instance where there is one, else the id.
--- Assumes nothing.
 use borrow.Author.Needs.{needs}
 use borrow.Author.Tests.{eq-eqb, ne-eqb}
 use Rattle.oce_diag.specs.Diagnostics.{blockSubject}

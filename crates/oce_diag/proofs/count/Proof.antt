@@ -1,5 +1,4 @@
 -- `oce_diag::count` meets its contract: what one diagnostic adds goes by its severity.
--- Assumes nothing.
 use Prim.Native.Nat.{ℕ, _+_}
 use native.Mathlib.Omega.{arith}
 use mathlib.Core.Path.{_≡_}

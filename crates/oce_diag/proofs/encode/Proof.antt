@@ -1,5 +1,4 @@
 -- `oce_diag::encode` meets its contract: the bytes are those of the definition, one by one.
--- Assumes nothing.
 use borrow.Author.Needs.{needs}
 use Rattle.numbers.specs.Bytes.{leBytes}
 use Rattle.oce_diag.specs.Encoding.{diagnosticBytes}

@@ -1,5 +1,4 @@
 -- `oce_diag::error` meets its contract: the fields as they are given.
--- Assumes nothing.
 use borrow.Author.Needs.{needs}
 use Rattle.oce_diag.specs.Diagnostics.{diagnostic}
 use Rattle.oce_diag.proofs.error.Statement.{statement}

@@ -1,5 +1,4 @@
 -- `oce_diag::put` meets its contract: one diagnostic is written and counted.
--- Assumes nothing.
 use borrow.Author.Needs.{needs}
 use Rattle.oce_diag.proofs.Putting.{put-one}
 use Rattle.oce_diag.proofs.put.Statement.{statement}

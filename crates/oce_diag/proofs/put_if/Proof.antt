@@ -1,5 +1,4 @@
 -- `oce_diag::put_if` meets its contract: by the test.
--- Assumes nothing.
 use borrow.Author.Needs.{needs}
 use mathlib.Core.Path.{refl}
 use Rattle.oce_diag.proofs.Putting.{put-only, put-skip}

@@ -1,5 +1,4 @@
 -- `oce_diag::subject_of` meets its contract: a connector's iri where there is one, else the id.
--- Assumes nothing.
 use borrow.Author.Needs.{needs}
 use borrow.Author.Tests.{eq-eqb, ne-eqb}
 use Rattle.oce_diag.specs.Diagnostics.{connectorSubject}

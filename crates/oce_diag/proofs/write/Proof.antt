@@ -1,5 +1,4 @@
 -- `oce_diag::write` meets its contract: the diagnostic's bytes where they fit, else nothing.
--- Assumes nothing.
 use mathlib.Core.Path.{_≡_, sym, _∙_}
 use mathlib.Core.List.{List}
 use Prim.Native.Nat.{ℕ, _+_, _*_, _≤_, _<_}

@@ -1,5 +1,4 @@
 -- `oce_validate::check` meets its contract: the three equations, and demand 3 by them.
--- Assumes nothing.
 use borrow.Author.Needs.{needs}
 use native.Mathlib.Omega.{arith}
 use mathlib.Core.Path.{ap}

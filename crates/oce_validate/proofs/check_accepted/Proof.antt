@@ -1,5 +1,4 @@
 -- `oce_validate::check_accepted` meets its contract.
--- Assumes nothing.
 use borrow.Author.Needs.{needs}
 use Rattle.oce_validate.proofs.Laws.{short-filled, image-small, slots-few}
 use Rattle.oce_validate.proofs.check_accepted.Statement.{statement}

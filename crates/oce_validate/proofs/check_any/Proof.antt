@@ -1,8 +1,7 @@
 -- `oce_validate::check_any` meets its contract.
--- Assumes nothing.
 use borrow.Author.Needs.{needs}
 use Rattle.oce_validate.proofs.Laws.{turned-away}
-use Rattle.accept.proofs.Answers.{accepted-laid, accepted-tabled}
+use Rattle.image_accept.proofs.Answers.{accepted-laid, accepted-tabled}
 use Rattle.oce_validate.proofs.check_any.Statement.{statement}
 use Rattle.oce_validate.proofs.check_any.Tie as tie
 

@@ -1,5 +1,4 @@
 -- `oce_validate::check_few` meets its contract.
--- Assumes nothing.
 use borrow.Author.Needs.{needs}
 use Rattle.oce_validate.proofs.Laws.{ready-few}
 use Rattle.oce_validate.proofs.check_few.Statement.{statement}

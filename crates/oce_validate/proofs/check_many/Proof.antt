@@ -1,5 +1,4 @@
 -- `oce_validate::check_many` meets its contract.
--- Assumes nothing.
 use borrow.Author.Needs.{needs}
 use Rattle.oce_validate.proofs.Laws.{ready-most}
 use Rattle.oce_validate.proofs.check_many.Statement.{statement}

@@ -1,5 +1,4 @@
 -- `oce_validate::check_over` meets its contract.
--- Assumes nothing.
 use Rattle.oce_validate.proofs.Laws.{ready-again, short-report}
 use borrow.Author.Needs.{needs}
 use Rattle.oce_validate.proofs.check_over.Statement.{statement}

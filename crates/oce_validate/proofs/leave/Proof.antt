@@ -1,5 +1,4 @@
 -- `oce_validate::leave` meets its contract.
--- Assumes nothing.
 use native.Mathlib.Omega.{arith}
 use Rattle.oce_validate.proofs.Laws.{reported}
 use borrow.Author.Needs.{needs}

@@ -1,5 +1,4 @@
 -- `oce_validate::leave_filled` meets its contract.
--- Assumes nothing.
 use borrow.Author.Needs.{needs}
 use native.Mathlib.Omega.{arith}
 use Rattle.oce_validate.proofs.Laws.{filled-kept, filled-written, slots-few, slots-counted, slots-room}

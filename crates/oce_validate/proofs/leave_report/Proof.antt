@@ -1,5 +1,4 @@
 -- `oce_validate::leave_report` meets its contract.
--- Assumes nothing.
 use Rattle.oce_validate.proofs.Laws.{early-copied, report-written}
 use borrow.Author.Needs.{needs}
 use Rattle.oce_validate.proofs.leave_report.Statement.{statement}

@@ -1,5 +1,4 @@
 -- `oce_validate::tally` meets its contract.
--- Assumes nothing.
 use Rattle.oce_validate.proofs.Laws.{tallied, early-written}
 use borrow.Author.Needs.{needs}
 use Rattle.oce_validate.proofs.tally.Statement.{statement}

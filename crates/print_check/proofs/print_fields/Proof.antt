@@ -1,5 +1,4 @@
 -- `print_check::print_fields` meets its contract: each piece but the last holds a field at least, so it ends.
--- Assumes nothing.
 use Prim.Native.Nat.{_-_, _≤_}
 use mathlib.Core.Path.{_≡_}
 use lib.ListN.{length}

@@ -1,5 +1,4 @@
 -- `print_check::print_lines` meets its contract: each piece holds a line at least, so it ends.
--- Assumes nothing.
 use Prim.Native.Nat.{_-_, _≤_}
 use mathlib.Core.Path.{_≡_}
 use lib.ListN.{length}

@@ -1,7 +1,6 @@
 -- `print_check::print_report` meets its contract: the layout and the table are those of an accepted image.
--- Assumes nothing.
 use borrow.Author.Needs.{needs}
-use Rattle.accept.proofs.Answers.{accepted-laid, accepted-tabled}
+use Rattle.image_accept.proofs.Answers.{accepted-laid, accepted-tabled}
 use Rattle.print_check.proofs.print_report.Statement.{statement}
 use Rattle.print_check.proofs.print_report.Tie as tie
 

@@ -1,5 +1,4 @@
 -- `printed::first_line` meets its contract: by the answer.
--- Assumes nothing.
 use borrow.Author.Needs.{needs}
 use Rattle.printed.proofs.Laws.{first-length, first-after}
 use Rattle.printed.proofs.first_line.Statement.{statement}

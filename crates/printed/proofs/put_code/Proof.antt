@@ -1,5 +1,4 @@
 -- `printed::put_code` meets its contract: by the code.
--- Assumes nothing.
 use borrow.Author.Needs.{needs}
 use Rattle.printed.specs.Printed.{codeName}
 use Rattle.printed.proofs.Laws.{named-code}

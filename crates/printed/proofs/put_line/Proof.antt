@@ -1,5 +1,4 @@
 -- `printed::put_line` meets its contract: one behind the other.
--- Assumes nothing.
 use borrow.Author.Needs.{needs}
 use Rattle.decimal.proofs.Appending.{appended-four}
 use Rattle.printed.specs.Printed.{line}

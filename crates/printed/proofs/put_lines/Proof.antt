@@ -1,5 +1,4 @@
 -- `printed::put_lines` meets its contract: i diagnostics are passed, with their lines.
--- Assumes nothing.
 use Prim.Native.Nat.{_-_}
 use borrow.Author.Needs.{needs}
 use Rattle.printed.proofs.Laws.{Printing, printing-start, printing-long, printing-room, printing-turn, printing-end, printing-full}

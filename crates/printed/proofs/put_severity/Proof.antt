@@ -1,5 +1,4 @@
 -- `printed::put_severity` meets its contract: by the severity.
--- Assumes nothing.
 use borrow.Author.Needs.{needs}
 use Rattle.printed.specs.Printed.{severityName}
 use Rattle.printed.proofs.Laws.{named-severity}

@@ -1,5 +1,4 @@
 -- `printed::put_subject` meets its contract: by the subject.
--- Assumes nothing.
 use borrow.Author.Needs.{needs}
 use Rattle.printed.proofs.Laws.{room-text, near-text, subject-none, subject-text, subject-connector, subject-block}
 use Rattle.printed.proofs.put_subject.Statement.{statement}

@@ -1,6 +1,5 @@
 -- `reader::next` meets its contract: a walk of its MIR, by hand. The reader is taken apart, and `step_at` is called on the slice and the number; what it found and the reader with the new place are put into the result, a struct that holds a struct with a reference.
 -- The reader is Copy: what it owns is had twice, one copy is kept whole for the exit, and of the other what the slice owns goes to the callee.
--- Assumes nothing.
 use mathlib.Core.Path.{_≡_, refl, ap, subst}
 use Prim.Native.Nat.{_<_, _^_}
 use mathlib.Core.List.{List, [], _∷_}

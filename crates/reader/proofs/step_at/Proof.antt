@@ -1,5 +1,4 @@
 -- `reader::step_at` meets its contract.
--- Assumes nothing.
 use borrow.Author.Needs.{needs}
 use Rattle.reader.proofs.Laws.{step-field, step-cut, step-end}
 use Rattle.reader.proofs.step_at.Statement.{statement}

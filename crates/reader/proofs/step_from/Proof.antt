@@ -1,5 +1,4 @@
 -- `reader::step_from` meets its contract: a walk of its MIR, by hand. A reader is made and passed to `next`; of what comes back the field found and the new place are read out, the place from the struct inside. All that the proof knows of `next` is that it meets its contract.
--- Assumes nothing.
 use mathlib.Core.Path.{_≡_, refl, ap, subst}
 use Prim.Native.Nat.{ℕ, _<_, _^_}
 use mathlib.Core.List.{List, [], _∷_}

@@ -1,5 +1,4 @@
 -- `replay::main` is safe and ends: each turn is for one argument.
--- Assumes nothing.
 use Prim.Native.Nat.{_-_}
 use borrow.Author.Needs.{needs}
 use Rattle.replay.proofs.main.Statement.{statement}

@@ -1,5 +1,4 @@
 -- `replay::replay_records` is safe and ends: each turn is for one of the records that the file counts.
--- Assumes nothing.
 use Prim.Native.Nat.{_-_}
 use borrow.Author.Needs.{needs}
 use Rattle.replay.proofs.replay_records.Statement.{statement}

@@ -1,5 +1,4 @@
 -- `rules::assignments_and_connections` meets its contract: one rule after the other.
--- Assumes nothing.
 use borrow.Author.Needs.{needs}
 use Rattle.oce_diag.proofs.Putting.{put-then}
 use Rattle.rules.proofs.assignments_and_connections.Statement.{statement}

@@ -1,5 +1,4 @@
 -- `rules::first_five` meets its contract: one run after the other.
--- Assumes nothing.
 use borrow.Author.Needs.{needs}
 use Rattle.oce_diag.proofs.Putting.{put-then}
 use Rattle.rules.specs.Ran.{firstFive}

@@ -1,5 +1,4 @@
 -- `rules::ids_and_outputs` meets its contract: one rule after the other.
--- Assumes nothing.
 use borrow.Author.Needs.{needs}
 use Rattle.oce_diag.proofs.Putting.{put-then}
 use Rattle.rules.proofs.ids_and_outputs.Statement.{statement}

@@ -1,5 +1,4 @@
 -- `rules::run_few` meets its contract: the two columns, then all rules.
--- Assumes nothing.
 use borrow.Author.Needs.{needs}
 use Rattle.rules.proofs.Laws.{nothing-of-few}
 use Rattle.rules.proofs.run_few.Statement.{statement}

@@ -1,7 +1,6 @@
 -- `rules::run_many` meets its contract: the two columns, then all rules.
--- Assumes nothing.
 use borrow.Author.Needs.{needs}
-use Rattle.records.proofs.Laws.{connectors-few}
+use Rattle.image_records.proofs.Laws.{connectors-few}
 use Rattle.rules.proofs.Laws.{nothing-of-many}
 use Rattle.rules.proofs.run_many.Statement.{statement}
 use Rattle.rules.proofs.run_many.Tie as tie

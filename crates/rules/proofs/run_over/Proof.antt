@@ -1,5 +1,4 @@
 -- `rules::run_over` meets its contract: rules 1 to 5, then rule 6.
--- Assumes nothing.
 use borrow.Author.Needs.{needs}
 use Rattle.rules.proofs.Laws.{ran}
 use Rattle.rules.proofs.run_over.Statement.{statement}

@@ -1,5 +1,4 @@
 -- `stored::answer_at` meets its contract: the parts are read one by one.
--- Assumes nothing.
 use Prim.Native.Nat.{ℕ, _+_}
 use mathlib.Core.List.{List}
 use mathlib.Core.Path.{_≡_}

@@ -1,5 +1,4 @@
 -- `stored::is_stored` meets its contract: magic, then version.
--- Assumes nothing.
 use Prim.Native.Nat.{ℕ}
 use mathlib.Core.Bool.{false}
 use mathlib.Core.List.{List}

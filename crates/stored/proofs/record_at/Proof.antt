@@ -1,5 +1,4 @@
 -- `stored::record_at` meets its contract: a record that doesn't fit is cut, by whichever test finds it.
--- Assumes nothing.
 use Prim.Native.Nat.{ℕ, _+_, _-_, _≤_, _<_}
 use mathlib.Core.Bool.{Bool, true, false, _&&_}
 use mathlib.Core.List.{List}

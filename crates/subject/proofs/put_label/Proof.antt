@@ -1,5 +1,4 @@
 -- `subject::put_label` meets its contract: by the kind.
--- Assumes nothing.
 use borrow.Author.Needs.{needs}
 use Rattle.subject.proofs.Laws.{put-connector, put-block, put-neither}
 use Rattle.subject.proofs.put_label.Statement.{statement}

@@ -1,5 +1,4 @@
 -- `subject::read_label` meets its contract: by the room in the scratch.
--- Assumes nothing.
 use borrow.Author.Needs.{needs}
 use Rattle.subject.proofs.Laws.{short-read, long-read}
 use Rattle.subject.proofs.read_label.Statement.{statement}

@@ -1,7 +1,6 @@
 -- `subject::subject` meets its contract: nothing of a refused image, otherwise the part.
--- Assumes nothing.
 use borrow.Author.Needs.{needs}
-use Rattle.accept.proofs.Answers.{accepted-laid, accepted-tabled}
+use Rattle.image_accept.proofs.Answers.{accepted-laid, accepted-tabled}
 use Rattle.subject.proofs.Laws.{refused-read, accepted-read}
 use Rattle.subject.proofs.subject.Statement.{statement}
 use Rattle.subject.proofs.subject.Tie as tie

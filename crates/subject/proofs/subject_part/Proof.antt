@@ -1,5 +1,4 @@
 -- `subject::subject_part` meets its contract: by the kind.
--- Assumes nothing.
 use borrow.Author.Needs.{needs}
 use Rattle.subject.proofs.Laws.{part-text, part-label}
 use Rattle.subject.proofs.subject_part.Statement.{statement}

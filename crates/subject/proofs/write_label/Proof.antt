@@ -1,5 +1,4 @@
 -- `subject::write_label` meets its contract: by the room in the scratch.
--- Assumes nothing.
 use borrow.Author.Needs.{needs}
 use Rattle.subject.proofs.Laws.{short-length, short-after, long-length, long-after}
 use Rattle.subject.proofs.write_label.Statement.{statement}

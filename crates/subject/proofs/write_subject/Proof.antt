@@ -1,5 +1,4 @@
 -- `subject::write_subject` meets its contract: nothing for a refused image, otherwise the label.
--- Assumes nothing.
 use borrow.Author.Needs.{needs}
 use Rattle.subject.proofs.Laws.{refused-length, refused-after, accepted-length, accepted-after}
 use Rattle.subject.proofs.write_subject.Statement.{statement}

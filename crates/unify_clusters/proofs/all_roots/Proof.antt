@@ -1,5 +1,4 @@
 -- `unify_clusters::all_roots` meets its contract.
--- Assumes nothing.
 use borrow.Author.Needs.{needs}
 use Rattle.unify_clusters.proofs.Laws.{stage-after, unified-tested, unified-not}
 use Rattle.unify_clusters.proofs.all_roots.Statement.{statement}

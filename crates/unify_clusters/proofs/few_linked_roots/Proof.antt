@@ -1,5 +1,4 @@
 -- `unify_clusters::few_linked_roots` meets its contract.
--- Assumes nothing.
 use borrow.Author.Needs.{needs}
 use Rattle.unify_clusters.proofs.Laws.{few-connectors, few-links, few-members, heads-empty, heads-room, nexts-room, stage-fresh}
 use Rattle.unify_clusters.proofs.few_linked_roots.Statement.{statement}

@@ -1,5 +1,4 @@
 -- `unify_clusters::linked_roots` meets its contract.
--- Assumes nothing.
 use borrow.Author.Needs.{needs}
 use Rattle.unify_clusters.proofs.Laws.{links-fit}
 use Rattle.unify_clusters.proofs.linked_roots.Statement.{statement}

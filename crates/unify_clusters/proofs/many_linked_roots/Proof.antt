@@ -1,5 +1,4 @@
 -- `unify_clusters::many_linked_roots` meets its contract.
--- Assumes nothing.
 use borrow.Author.Needs.{needs}
 use Rattle.unify_clusters.proofs.Laws.{connectors-most, links-most, members-most, heads-empty, heads-room, nexts-room, stage-fresh}
 use Rattle.unify_clusters.proofs.many_linked_roots.Statement.{statement}

@@ -1,5 +1,4 @@
 -- `unify_clusters::unify_clusters` meets its contract.
--- Assumes nothing.
 use borrow.Author.Needs.{needs}
 use Rattle.unify_clusters.proofs.Laws.{unified-count}
 use Rattle.unify_clusters.proofs.unify_clusters.Statement.{statement}

@@ -1,5 +1,4 @@
 -- `unify_seen::is_seen` meets its contract.
--- Assumes nothing.
 use borrow.Author.Needs.{needs}
 use Rattle.unify_seen.proofs.Laws.{shows-real, shows-integer}
 use Rattle.unify_seen.proofs.is_seen.Statement.{statement}

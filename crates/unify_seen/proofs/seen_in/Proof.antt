@@ -1,5 +1,4 @@
 -- `unify_seen::seen_in` meets its contract.
--- Assumes nothing.
 use borrow.Author.Needs.{needs}
 use Prim.Native.Nat.{_-_}
 use lib.ListN.{length}

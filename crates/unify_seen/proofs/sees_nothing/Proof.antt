@@ -1,5 +1,4 @@
 -- `unify_seen::sees_nothing` meets its contract.
--- Assumes nothing.
 use borrow.Author.Needs.{needs}
 use Rattle.unify_seen.proofs.Laws.{nothing-both, nothing-not}
 use Rattle.unify_seen.proofs.sees_nothing.Statement.{statement}

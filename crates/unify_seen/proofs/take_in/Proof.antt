@@ -1,5 +1,4 @@
 -- `unify_seen::take_in` meets its contract.
--- Assumes nothing.
 use borrow.Author.Needs.{needs}
 use Rattle.unify_seen.proofs.Laws.{taken-marks, taken-none}
 use Rattle.unify_seen.proofs.take_in.Statement.{statement}

@@ -1,2 +1,0 @@
--- Laws of in-degrees over a list of connections.
-pub mod Laws

@@ -1,2 +1,0 @@
--- In-degrees over a list of connections.
-pub mod Counted

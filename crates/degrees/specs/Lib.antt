@@ -1,2 +1,0 @@
--- In-degrees of all connectors, in a column.
-pub mod Columns

@@ -1,2 +1,0 @@
--- A model whose numbers have four bytes.
-pub mod Bounded

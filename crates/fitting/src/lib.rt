@@ -1,1 +1,0 @@
-// The numbers of every diagnostic have room in its bytes. No code.

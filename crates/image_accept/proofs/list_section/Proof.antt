@@ -1,0 +1,44 @@
+-- `image_accept::list_section` meets its contract: the same, and the table begins with the offsets of the fields passed.
+use Prim.Native.Nat.{_-_}
+use lib.ListN.{length}
+use borrow.Author.Needs.{needs}
+use Rattle.image_framing.proofs.Walks.{within-end, within-longest, walk-less}
+use Rattle.image_accept.proofs.Sifts.{sieving-past, sieving-end, sieving-fault, Listing, listing-start, listing-turn, listing-past, listing-end, listing-fault}
+use Rattle.image_accept.proofs.list_section.Statement.{statement}
+use Rattle.image_accept.proofs.list_section.Tie as tie
+
+abbrev Inv-loop : tie.InvT-loop
+Inv-loop s tag n table₀ start listed₀ g₀ table listed g = Listing tag n s table₀ listed table g
+
+abbrev μ-loop : tie.MeasureT-loop
+μ-loop s tag n table₀ start listed₀ g₀ table listed g = length s - g .at
+
+pub list-section-spec : {M : Type 1} → statement M
+list-section-spec =
+    tie.close
+    (tie.spec
+    Inv-loop
+    μ-loop
+    (λ c. search (listing-start, needs))
+    (λ c. search needs)
+    (λ c. search (sieving-past, listing-past, needs))
+    (λ c κs. search needs)
+    (λ c. search needs)
+    (λ c. search (sieving-fault, listing-fault, needs))
+    (λ c κs. (within-end (c .before .before .before .before .before .before .before .before .before .args .s .now) (c .before .before .before .before .before .before .loop .g) (c .before .runs-past .ensures) (c .if3 .left), c .before .before .before .before .before .before .loop .inv .sieves .rising .short))
+    (λ c. search needs)
+    (λ c. search (sieving-fault, listing-fault, needs))
+    (λ c. search needs)
+    (λ c. search (sieving-fault, listing-fault, needs))
+    (λ c. search needs)
+    (λ c. search needs)
+    (λ c. search needs)
+    (λ c κs.
+    let inv = c .before .before .before .before .before .before .before .before .before .loop .inv .sieves in
+    (within-longest (c .before .before .before .before .before .before .before .before .before .before .before .before .args .s .now) (c .before .before .before .before .before .before .before .before .before .loop .g) (c .before .before .before .before .runs-past .ensures) (c .before .before .before .if3 .left) (inv .rising .short), inv .rising .walk .few))
+    (λ c. search (walk-less, needs))
+    (λ c.
+    let inside = within-end (c .before .before .before .before .before .before .before .before .before .before .before .before .before .args .s .now) (c .before .before .before .before .before .before .before .before .before .before .loop .g) (c .before .before .before .before .before .runs-past .ensures) (c .before .before .before .before .if3 .left) in
+    listing-turn (c .before .before .before .before .before .before .before .before .before .before .loop .inv) (c .before .before .before .before .before .before .before .before .before .before .before .before .before .pre .1) (c .before .before .before .before .before .before .before .before .if1 .taken) (c .before .before .before .before .before .before .if2 .left) inside (c .before .if5 .left) (c .before .before .before .is-faulty-list .ensures) (c .before .before .if4 .left) (c .next-field .ensures .0) (c .next-field .ensures .1))
+    (λ c. search needs)
+    (λ c. search (sieving-end, listing-end, needs)))

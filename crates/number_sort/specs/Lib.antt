@@ -1,2 +1,0 @@
--- Numbers in ascending order.
-pub mod Sort

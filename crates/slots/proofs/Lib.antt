@@ -1,3 +1,0 @@
-pub mod Laws
-pub mod Marks
-pub mod Model

@@ -1,0 +1,22 @@
+-- What rule 1 reports, from the numbers that were read of a record.
+use Prim.Native.Nat.{ℕ, _+_, _*_}
+use mathlib.Core.Bool.{not}
+use mathlib.Core.List.{List, _++_}
+use lib.Dec.{eqb, ltb}
+use Rattle.base.specs.Lists.{only}
+use Rattle.numbers.specs.Bytes.{le32}
+use Rattle.oce_model.specs.Format.{portLength}
+use Rattle.oce_diag.specs.Diagnostics.{error}
+use Rattle.oce_diag.specs.declared.Diagnostic.{Diagnostic}
+use Rattle.oce_diag.specs.declared.Subject.{Subject}
+use Rattle.oce_diag.specs.declared.DiagCode.the-variants.{MalformedDocument}
+
+-- port j of those whose ids begin at an offset, in a model of n connectors
+unfoldable pub portFault : ℕ → Subject → ℕ → List ℕ → ℕ → ℕ → List Diagnostic
+portFault n subject detail s ids j = only (not (ltb (le32 s (ids + portLength * j)) n)) (error MalformedDocument 1 detail subject j)
+
+-- connector i, whose id and block were read, in a model of n blocks
+unfoldable pub idAndBlock : ℕ → ℕ → ℕ → ℕ → Subject → List Diagnostic
+idAndBlock i id block n subject =
+    only (not (eqb id i)) (error MalformedDocument 1 4 subject i)
+    ++ only (not (ltb block n)) (error MalformedDocument 1 5 subject i)

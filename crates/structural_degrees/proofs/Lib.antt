@@ -1,0 +1,3 @@
+-- Laws of add-degrees over a list of connections.
+pub mod Counting
+pub mod Laws

@@ -1,0 +1,99 @@
+// The external inputs in a column, so that an id is looked up in few steps: small ids each have an entry,
+// the others stand sorted behind these. A column of 2 * h + 1 entries serves h external inputs: an entry for
+// each id below h, room for h others, and how many others there are.
+use image_accept::Layout;
+use sorting::is_among;
+use sorting::sort;
+use oce_model::MOST_EXTERNAL_INPUTS;
+use image_records::external_input;
+ghost use mathlib.Core.Path.{_≡_};
+ghost use Prim.Native.Nat.{_+_, _<_, _≤_};
+ghost use lib.ListN.{length, getD};
+ghost use Rattle.oce_model.specs.Format.{mostExternalInputs};
+ghost use Rattle.oce_model.specs.Model.{modelOf};
+ghost use Rattle.structural.specs.Degrees.{external};
+ghost use Rattle.image_accept.specs.Layout.{Laid};
+ghost use Rattle.structural_externals.specs.Columns.{half, listedIds, othersCount, Lists, Ordered, Listed};
+
+// The entries of a column that serves every image.
+pub const EXTERNALS_COLUMN: usize = 2 * MOST_EXTERNAL_INPUTS + 1;
+
+fn wide(x: u32) -> usize
+    ensures { λ r. ⌜ r ≡ x ⌝ }
+{
+    x as usize
+}
+
+// How many ids have an entry of their own in a column of n entries.
+fn half(n: usize) -> usize
+    ensures { λ r. ⌜ r ≡ half n ⌝ }
+{
+    n / 2
+}
+
+// External input k marks its id's entry, or is put behind the n others. How many others there are then.
+fn list_one(image: &[u8], layout: Layout, k: usize, n: usize, xs: &mut [u32]) -> usize
+    requires { ⌜ Laid (now image) layout × (k < layout .externals .count) × Lists (modelOf (now image)) k n (now xs) × (n < listedIds (now xs)) ⌝ }
+    ensures { λ r. ⌜ Lists (modelOf (now (image .entry))) (k + 1) r (now (xs .exit)) ⌝ }
+{
+    let h = half(xs.len());
+    let id = external_input(image, layout, k);
+    if id < h {
+        xs[id] = 1;
+        return n;
+    }
+    xs[h + n] = id as u32;
+    n + 1
+}
+
+// Sorts the n others, and notes how many they are.
+fn sort_others(xs: &mut [u32], n: usize)
+    requires { ⌜ (n ≤ mostExternalInputs) × (n ≤ listedIds (now xs)) × (othersCount (now xs) < length (now xs)) ⌝ }
+    ensures { λ _. ⌜ Ordered n (now (xs .entry)) (now (xs .exit)) ⌝ }
+{
+    let h = half(xs.len());
+    if n <= 1 {
+        xs[h + h] = n as u32;
+        return;
+    }
+    let mut tmp = [0u32; MOST_EXTERNAL_INPUTS];
+    let end = h + n;
+    sort(&mut xs[h..end], &mut tmp);
+    xs[h + h] = n as u32;
+}
+
+// xs is cleared by the caller.
+pub fn list_externals(image: &[u8], layout: Layout, xs: &mut [u32])
+    requires { ⌜ Laid (now image) layout × Lists (modelOf (now image)) 0 0 (now xs) ⌝ }
+    ensures { λ _. ⌜ Listed (modelOf (now (image .entry))) (now (xs .exit)) ⌝ }
+{
+    let externals = layout.externals;
+    let mut k = 0;
+    let mut n = 0;
+    while k < externals.count {
+        n = list_one(image, layout, k, n, xs);
+        k += 1;
+    }
+    sort_others(xs, n);
+}
+
+// How many others a column has.
+fn others(xs: &[u32]) -> usize
+    requires { ⌜ othersCount (now xs) < length (now xs) ⌝ }
+    ensures { λ r. ⌜ r ≡ getD (now (xs .entry)) (othersCount (now (xs .entry))) 0 ⌝ }
+{
+    let h = half(xs.len());
+    wide(xs[h + h])
+}
+
+pub fn is_external(image: &[u8], layout: Layout, xs: &[u32], id: usize) -> bool
+    requires { ⌜ Laid (now image) layout × Listed (modelOf (now image)) (now xs) ⌝ }
+    ensures { λ r. ⌜ r ≡ external (modelOf (now (image .entry))) id ⌝ }
+{
+    let h = half(xs.len());
+    if id < h {
+        return xs[id] == 1;
+    }
+    let end = h + others(xs);
+    is_among(&xs[h..end], id)
+}

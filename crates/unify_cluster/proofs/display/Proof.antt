@@ -1,0 +1,20 @@
+-- `unify_cluster::display` meets its contract.
+use borrow.Author.Needs.{needs}
+use borrow.Author.Tests.{not-true}
+use Rattle.unify_cluster.proofs.Laws.{display-skip, display-none, display-differ}
+use Rattle.unify_cluster.proofs.display.Statement.{statement}
+use Rattle.unify_cluster.proofs.display.Tie as tie
+
+ruleset mine = (display-none, display-differ, needs)
+
+pub display-spec : {M : Type 1} → statement M
+display-spec =
+    tie.close
+    (tie.spec
+    (λ c κs. search needs)
+    (λ c. search (display-skip, not-true, needs))
+    (λ c κs. search needs)
+    (λ c κs. search needs)
+    (λ c. search needs)
+    (λ c. search mine)
+    (λ c. search mine))

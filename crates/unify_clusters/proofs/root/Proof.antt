@@ -1,0 +1,24 @@
+-- `unify_clusters::root` meets its contract.
+use borrow.Author.Needs.{needs}
+use Rattle.unify_clusters.proofs.Roots.{root-none, root-cluster, stage-root, stage-ready, from-zero}
+use Rattle.unify_clusters.proofs.root.Statement.{statement}
+use Rattle.unify_clusters.proofs.root.Tie as tie
+
+ruleset mine = (root-none, root-cluster, from-zero, needs)
+
+pub root-spec : {M : Type 1} → statement M
+root-spec =
+    tie.close
+    (tie.spec
+    (λ c κs. (search needs, search needs, search stage-root, search needs))
+    (λ c. search needs)
+    (λ c. search mine)
+    (λ c. search needs)
+    (λ c. search needs)
+    (λ c. search needs)
+    (λ c κs. (search (stage-ready, from-zero), search needs, search needs))
+    (λ c. search needs)
+    (λ c. search needs)
+    (λ c. search needs)
+    (λ c. search needs)
+    (λ c. search mine))

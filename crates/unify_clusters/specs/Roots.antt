@@ -1,0 +1,38 @@
+-- What the code's steps ask and give over the roots of rule 6.
+use Prim.Native.Nat.{ℕ, _+_, _*_, _≤_, _<_}
+use mathlib.Core.Path.{_≡_}
+use mathlib.Core.List.{List}
+use lib.ListN.{length}
+use Rattle.oce_model.specs.Format.{textTag}
+use Rattle.oce_model.specs.Model.{Model, modelOf, connectorCount}
+use Rattle.image_accept.specs.Layout.{Laid, Tabled}
+use Rattle.image_accept.specs.declared.Layout.{Layout}
+use Rattle.oce_diag.specs.declared.Counted.{Counted}
+use Rattle.oce_diag.specs.Putting.{total, Put}
+use Rattle.unify.specs.Unify.{fillRoot, rootFaults, filledSlots, rule6}
+use Rattle.unify_slots.specs.Columns.{slotCount, view, Room}
+use Rattle.unify_links.specs.Links.{linkCount, Linked}
+
+-- texts, links and slots of an accepted image, and an array that has room for the members of any cluster
+pub record Stage (image : List ℕ) (layout : Layout) (texts head next : List ℕ) (s : ℕ) (ks ms ns members : List ℕ) : Type 0 where
+  pub laid : Laid image layout
+  pub tabled : Tabled textTag image texts
+  pub linked : Linked (modelOf image) 0 head next
+  pub count : s ≡ slotCount (modelOf image)
+  pub room : Room s ks ms ns
+  pub wide : linkCount (modelOf image) < length members
+
+-- ---- the columns, and a report b in which c were counted that has become b′ with c′
+
+-- by root r
+pub record Rooted (m : Model) (r s : ℕ) (ks ms ns ms′ ns′ b : List ℕ) (c : Counted) (b′ : List ℕ) (c′ : Counted) : Type 0 where
+  pub slots : view s ks ms′ ns′ ≡ fillRoot m r (view s ks ms ns)
+  pub put : Put b c (rootFaults m r (view s ks ms ns)) b′ c′
+  pub few : total c′ ≤ total c + 7
+
+-- by all roots
+pub record AllRooted (m : Model) (s : ℕ) (ks ms ns b : List ℕ) (c : Counted) (b′ : List ℕ) (c′ : Counted) : Type 0 where
+  pub slots : view s ks ms ns ≡ filledSlots m
+  pub room : Room s ks ms ns
+  pub put : Put b c (rule6 m) b′ c′
+  pub few : total c′ ≤ total c + 7 * connectorCount m

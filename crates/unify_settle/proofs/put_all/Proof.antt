@@ -1,0 +1,31 @@
+-- `unify_settle::put_all` meets its contract.
+use borrow.Author.Needs.{needs}
+use Prim.Native.Nat.{_-_}
+use lib.ListN.{length}
+use Rattle.unify_settle.proofs.Laws.{Puts}
+use Rattle.unify_settle.proofs.Laws.{puts-start, puts-turn, puts-done}
+use Rattle.unify_settle.proofs.put_all.Statement.{statement}
+use Rattle.unify_settle.proofs.put_all.Tie as tie
+
+abbrev Inv-loop : tie.InvT-loop
+Inv-loop s ks ms₀ ns₀ members d v i₀ ms ns i = Puts d v s ks members ms₀ ns₀ ms ns i
+
+abbrev μ-loop : tie.MeasureT-loop
+μ-loop s ks ms₀ ns₀ members d v i₀ ms ns i = length members - i
+
+ruleset mine = (puts-start, puts-turn, puts-done, needs)
+
+pub put-all-spec : {M : Type 1} → statement M
+put-all-spec =
+    tie.close
+    (tie.spec
+    Inv-loop
+    μ-loop
+    (λ c. search mine)
+    (λ c κs. search mine)
+    (λ c. search mine)
+    (λ c. search mine)
+    (λ c. search mine)
+    (λ c. search mine)
+    (λ c. search mine)
+    (λ c. search mine))

@@ -1,0 +1,41 @@
+-- What the code's steps give for one detail of rule 6 over the members of one cluster.
+use Prim.Native.Nat.{ℕ, _+_, _≤_, _<_}
+use mathlib.Core.Path.{_≡_}
+use mathlib.Core.Bool.{Bool}
+use mathlib.Core.List.{List, [], _∷_}
+use lib.ListN.{length, drop}
+use Rattle.base.specs.Lists.{all}
+use Rattle.numbers.specs.Bytes.{wordRange}
+use Rattle.oce_model.specs.Format.{textTag}
+use Rattle.oce_model.specs.Model.{Model}
+use Rattle.image_accept.specs.Layout.{Laid, Tabled}
+use Rattle.image_accept.specs.declared.Layout.{Layout}
+use Rattle.unify.specs.Slots.{Slots, slot, value, agree}
+use Rattle.unify.specs.Unify.{cons?, declared, putAll, fill, conflict}
+use Rattle.unify_slots.specs.Columns.{view, Room, Inside}
+
+-- texts of an accepted image, and columns that have s slots, the members among them
+pub record Ready (image : List ℕ) (layout : Layout) (texts : List ℕ) (s : ℕ) (ks ms ns js : List ℕ) : Type 0 where
+  pub laid : Laid image layout
+  pub tabled : Tabled textTag image texts
+  pub room : Room s ks ms ns
+  pub inside : Inside s js
+  pub few : length js < wordRange
+
+-- member `at` is the first that declares something, and v is what it declares; `at` is the number of members where none does
+pub record FirstOf (d : ℕ) (σ : Slots) (js : List ℕ) (at v : ℕ) : Type 0 where
+  pub found : at < length js → declared d σ js ≡ v ∷ declared d σ (drop (at + 1) js)
+  pub missing : length js ≤ at → declared d σ js ≡ []
+
+-- what slot j declares agrees with v, if it declares anything
+pub record Agrees (m : Model) (d v : ℕ) (σ : Slots) (j : ℕ) (r : Bool) : Type 0 where
+  pub told : r ≡ all (agree m d v) (cons? (value d (slot σ j)) [])
+
+-- the columns have taken v at each unset member
+pub record PutAll (d v s : ℕ) (ks js ms ns ms′ ns′ : List ℕ) : Type 0 where
+  pub slots : view s ks ms′ ns′ ≡ putAll d v js (view s ks ms ns)
+
+-- the columns after one detail, and whether its members are in conflict
+pub record Settled (m : Model) (d s : ℕ) (ks js ms ns ms′ ns′ : List ℕ) (r : Bool) : Type 0 where
+  pub slots : view s ks ms′ ns′ ≡ fill m js d (view s ks ms ns)
+  pub told : r ≡ conflict m d (declared d (view s ks ms ns) js)

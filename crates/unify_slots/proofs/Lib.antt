@@ -1,0 +1,4 @@
+pub mod Laws
+pub mod Marks
+pub mod Model
+pub mod Loading

@@ -1,0 +1,30 @@
+-- `unify_slots::put_one` meets its contract.
+use borrow.Author.Needs.{needs}
+use Rattle.unify_slots.proofs.Laws.{put-other, put-marked, put-new}
+use Rattle.unify_slots.proofs.Marks.{unmarked}
+use Rattle.unify_slots.proofs.put_one.Statement.{statement}
+use Rattle.unify_slots.proofs.put_one.Tie as tie
+
+ruleset mine = (put-other, put-marked, put-new, unmarked, needs)
+
+pub put-one-spec : {M : Type 1} → statement M
+put-one-spec =
+    tie.close
+    (tie.spec
+    (λ c. search needs)
+    (λ c κs. search needs)
+    (λ c κs. search needs)
+    (λ c. search mine)
+    (λ c κs. search needs)
+    (λ c. search needs)
+    (λ c κs. search needs)
+    (λ c. search mine)
+    (λ c κs. search mine)
+    (λ c. search needs)
+    (λ c. search needs)
+    (λ c. search needs)
+    (λ c. search needs)
+    (λ c. search needs)
+    (λ c. search needs)
+    (λ c. search needs)
+    (λ c. search mine))
