@@ -10,9 +10,10 @@ use lib.ListN.{length, getD, drop, length-append, drop-of-length-le}
 use lib.Seq.{drop-cons}
 use Rattle.base.specs.Lists.{any}
 use Rattle.base.proofs.Lists.{any-append}
+use Rattle.numbers.specs.Bytes.{shortRange}
 use Rattle.oce_model.specs.Texts.{order, isEqual}
 use Rattle.oce_model.specs.Model.{Model}
-use Rattle.oce_diag.specs.Putting.{total, Put}
+use Rattle.oce_diag.specs.Putting.{total, Put, Countable}
 use Rattle.oce_diag.specs.declared.Counted.{Counted}
 use Rattle.oce_diag.proofs.Putting.{put-none, put-then, put-length}
 use Rattle.crossed_bounds.specs.Ranges.{combined, takeIn, takeInAll}
@@ -178,10 +179,10 @@ module _ {m : Model} {n : ℕ} {xs b₀ : List ℕ} {c₀ : Counted} {b : List �
 
   -- c was counted before the first group
   module _ {c : Counted} (o : c₀ ≡ c) where
-    pub passed-small : total c ≤ 1000000 → length xs < 65536 → Small p
+    pub passed-small : Countable (length xs) c → length xs < shortRange → Small p
     passed-small k h =
-        let l : total c₀ ≤ 1000000 = rw o k in
-        record { few = omega (arith, v .few, v .within); members = omega (arith, v .more, v .within) }
+        let l : Countable (length xs) c₀ = rw o k in
+        record { few = omega (arith, v .few, v .begun, v .within); members = omega (arith, v .more, v .within) }
 
     module _ {b′ : List ℕ} {r : Counted} (u : Put b (p .counted) (passFaults m p) b′ r) where
       pub passed-end : length xs ≤ i → Put b₀ c (groupsFaults m (runs (memberKey m) xs)) b′ r

@@ -10,7 +10,7 @@ use Rattle.numbers.specs.Bytes.{shortRange}
 use Rattle.oce_model.specs.Texts.{order, isEqual}
 use Rattle.oce_model.specs.Model.{Model}
 use Rattle.oce_diag.specs.Diagnostics.{error}
-use Rattle.oce_diag.specs.Putting.{total, Put}
+use Rattle.oce_diag.specs.Putting.{Countable, Adds, Put}
 use Rattle.oce_diag.specs.declared.Counted.{Counted}
 use Rattle.oce_diag.specs.declared.Diagnostic.{Diagnostic}
 use Rattle.oce_diag.specs.declared.Subject.the-variants.{Text}
@@ -54,12 +54,12 @@ pub record AllMembers (n : ℕ) (xs : List ℕ) : Type 0 where
 
 -- what is counted fits
 pub record Small (p : Pass) : Type 0 where
-  pub few : total (p .counted) ≤ 2000000
+  pub few : Countable 1 (p .counted)
   pub members : p .members < shortRange
 
 -- the next member joins the open group, or that is closed and the member opens another
 pub record Stepped (m : Model) (p : Pass) (x : ℕ) (b b′ : List ℕ) (r : Pass) : Type 0 where
   pub put : Put b (p .counted) (cond (sameKey m (p .first) x) [] (passFaults m p)) b′ (r .counted)
   pub next : r ≡ cond (sameKey m (p .first) x) (grown p (memberExternal m x) (memberRange m x)) (opened (r .counted) x (memberExternal m x) (memberRange m x))
-  pub few : total (r .counted) ≤ total (p .counted) + 1
+  pub few : Adds 1 (p .counted) (r .counted)
   pub more : r .members ≤ p .members + 1

@@ -28,7 +28,7 @@ ghost use Rattle.base.specs.Lists.{tab};
 ghost use Rattle.numbers.specs.Bytes.{shortRange};
 ghost use Rattle.oce_model.specs.Format.{textTag, mostConnectors, mostBoundaryInputs};
 ghost use Rattle.oce_model.specs.Model.{modelOf};
-ghost use Rattle.oce_diag.specs.Putting.{total, Put};
+ghost use Rattle.oce_diag.specs.Putting.{Put, Countable, Adds};
 ghost use Rattle.image_accept.specs.Layout.{Laid, Tabled};
 ghost use Rattle.structural_externals.specs.Columns.{Listed};
 ghost use Rattle.crossed_sort.specs.Sort.{sorted};
@@ -119,7 +119,7 @@ fn to_report(p: Pass) -> bool
 // Reports it, where that is to be.
 fn close(image: &[u8], layout: Layout, p: Pass, report: &mut [u8]) -> Counted
     requires { ⌜ Laid (now image) layout × isMember layout (p .first) × Small p ⌝ }
-    ensures { λ r. ⌜ Put (now (report .entry)) (p .counted) (passFaults (modelOf (now (image .entry))) p) (now (report .exit)) r × (total r ≤ total (p .counted) + 1) ⌝ }
+    ensures { λ r. ⌜ Put (now (report .entry)) (p .counted) (passFaults (modelOf (now (image .entry))) p) (now (report .exit)) r × Adds 1 (p .counted) r ⌝ }
 {
     let counted = p.counted;
     let first = p.first;
@@ -185,8 +185,8 @@ fn report_groups<'a>(
     report: &mut [u8],
     counted: Counted,
 ) -> Counted
-    requires { ⌜ Laid (now image) layout × Tabled textTag (now image) (now texts) × Listed (modelOf (now image)) (now externals) × AllMembers (memberCount layout) (now records) × (length (now records) < shortRange) × (total counted ≤ 1000000) ⌝ }
-    ensures { λ r. ⌜ Put (now (report .entry)) counted (groupsFaults (modelOf (now (image .entry))) (runs (memberKey (modelOf (now (image .entry)))) (now (records .entry)))) (now (report .exit)) r × (total r ≤ total counted + length (now (records .entry))) ⌝ }
+    requires { ⌜ Laid (now image) layout × Tabled textTag (now image) (now texts) × Listed (modelOf (now image)) (now externals) × AllMembers (memberCount layout) (now records) × (length (now records) < shortRange) × Countable (length (now records)) counted ⌝ }
+    ensures { λ r. ⌜ Put (now (report .entry)) counted (groupsFaults (modelOf (now (image .entry))) (runs (memberKey (modelOf (now (image .entry)))) (now (records .entry)))) (now (report .exit)) r × Adds (length (now (records .entry))) counted r ⌝ }
 {
     if records.len() == 0 {
         return counted;
@@ -215,8 +215,8 @@ fn report_members<'a>(
     report: &mut [u8],
     counted: Counted,
 ) -> Counted
-    requires { ⌜ Laid (now image) layout × Tabled textTag (now image) (now texts) × Listed (modelOf (now image)) (now externals) × (now iri ≡ tab (memberCount layout) (memberIri (modelOf (now image)))) × (now records ≡ crowdedMembers (modelOf (now image)) (memberCount layout)) × (length (now records) ≤ memberCount layout) × (length (now records) ≤ length (now scratch)) × (total counted ≤ 1000000) ⌝ }
-    ensures { λ r. ⌜ Put (now (report .entry)) counted (groupsFaults (modelOf (now (image .entry))) (groups (modelOf (now (image .entry))))) (now (report .exit)) r × (total r ≤ total counted + memberCount layout) ⌝ }
+    requires { ⌜ Laid (now image) layout × Tabled textTag (now image) (now texts) × Listed (modelOf (now image)) (now externals) × (now iri ≡ tab (memberCount layout) (memberIri (modelOf (now image)))) × (now records ≡ crowdedMembers (modelOf (now image)) (memberCount layout)) × (length (now records) ≤ memberCount layout) × (length (now records) ≤ length (now scratch)) × Countable (memberCount layout) counted ⌝ }
+    ensures { λ r. ⌜ Put (now (report .entry)) counted (groupsFaults (modelOf (now (image .entry))) (groups (modelOf (now (image .entry))))) (now (report .exit)) r × Adds (memberCount layout) counted r ⌝ }
 {
     sort(image, layout, texts, iri, records, scratch);
     report_groups(image, layout, texts, externals, records, report, counted)
@@ -234,8 +234,8 @@ fn report_crowded<'a>(
     report: &mut [u8],
     counted: Counted,
 ) -> Counted
-    requires { ⌜ Laid (now image) layout × Tabled textTag (now image) (now texts) × Listed (modelOf (now image)) (now externals) × (length (now iri) ≡ memberCount layout) × (memberCount layout ≤ length (now scratch)) × (memberCount layout ≤ length (now records)) × (total counted ≤ 1000000) ⌝ }
-    ensures { λ r. ⌜ Put (now (report .entry)) counted (groupsFaults (modelOf (now (image .entry))) (groups (modelOf (now (image .entry))))) (now (report .exit)) r × (total r ≤ total counted + memberCount layout) ⌝ }
+    requires { ⌜ Laid (now image) layout × Tabled textTag (now image) (now texts) × Listed (modelOf (now image)) (now externals) × (length (now iri) ≡ memberCount layout) × (memberCount layout ≤ length (now scratch)) × (memberCount layout ≤ length (now records)) × Countable (memberCount layout) counted ⌝ }
+    ensures { λ r. ⌜ Put (now (report .entry)) counted (groupsFaults (modelOf (now (image .entry))) (groups (modelOf (now (image .entry))))) (now (report .exit)) r × Adds (memberCount layout) counted r ⌝ }
 {
     let k = collect_crowded(image, layout, texts, externals, iri, scratch, records);
     report_members(
@@ -260,8 +260,8 @@ fn few_domains<'a>(
     report: &mut [u8],
     counted: Counted,
 ) -> Counted
-    requires { ⌜ Laid (now image) layout × Tabled textTag (now image) (now texts) × Listed (modelOf (now image)) (now externals) × (total counted ≤ 1000000) × (memberCount layout ≤ fewMembers) ⌝ }
-    ensures { λ r. ⌜ Put (now (report .entry)) counted (groupsFaults (modelOf (now (image .entry))) (groups (modelOf (now (image .entry))))) (now (report .exit)) r × (total r ≤ total counted + memberCount layout) ⌝ }
+    requires { ⌜ Laid (now image) layout × Tabled textTag (now image) (now texts) × Listed (modelOf (now image)) (now externals) × Countable (memberCount layout) counted × (memberCount layout ≤ fewMembers) ⌝ }
+    ensures { λ r. ⌜ Put (now (report .entry)) counted (groupsFaults (modelOf (now (image .entry))) (groups (modelOf (now (image .entry))))) (now (report .exit)) r × Adds (memberCount layout) counted r ⌝ }
 {
     let mut iri = [0u16; FEW_MEMBERS];
     let mut records = [0usize; FEW_MEMBERS];
@@ -289,8 +289,8 @@ fn many_domains<'a>(
     report: &mut [u8],
     counted: Counted,
 ) -> Counted
-    requires { ⌜ Laid (now image) layout × Tabled textTag (now image) (now texts) × Listed (modelOf (now image)) (now externals) × (total counted ≤ 1000000) ⌝ }
-    ensures { λ r. ⌜ Put (now (report .entry)) counted (groupsFaults (modelOf (now (image .entry))) (groups (modelOf (now (image .entry))))) (now (report .exit)) r × (total r ≤ total counted + memberCount layout) ⌝ }
+    requires { ⌜ Laid (now image) layout × Tabled textTag (now image) (now texts) × Listed (modelOf (now image)) (now externals) × Countable (memberCount layout) counted ⌝ }
+    ensures { λ r. ⌜ Put (now (report .entry)) counted (groupsFaults (modelOf (now (image .entry))) (groups (modelOf (now (image .entry))))) (now (report .exit)) r × Adds (memberCount layout) counted r ⌝ }
 {
     let mut iri = [0u16; MOST_MEMBERS];
     let mut records = [0usize; MOST_MEMBERS];
@@ -319,8 +319,8 @@ pub fn check_combined_input_domains<'a>(
     report: &mut [u8],
     counted: Counted,
 ) -> Counted
-    requires { ⌜ Laid (now image) layout × Tabled textTag (now image) (now texts) × Listed (modelOf (now image)) (now externals) × (total counted ≤ 1000000) ⌝ }
-    ensures { λ r. ⌜ Put (now (report .entry)) counted (groupsFaults (modelOf (now (image .entry))) (groups (modelOf (now (image .entry))))) (now (report .exit)) r × (total r ≤ total counted + memberCount layout) ⌝ }
+    requires { ⌜ Laid (now image) layout × Tabled textTag (now image) (now texts) × Listed (modelOf (now image)) (now externals) × Countable (memberCount layout) counted ⌝ }
+    ensures { λ r. ⌜ Put (now (report .entry)) counted (groupsFaults (modelOf (now (image .entry))) (groups (modelOf (now (image .entry))))) (now (report .exit)) r × Adds (memberCount layout) counted r ⌝ }
 {
     if !some_external(image, layout, externals) {
         return counted;

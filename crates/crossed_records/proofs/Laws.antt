@@ -5,6 +5,7 @@ use mathlib.Core.Path.{_≡_, ap, _∙_}
 use mathlib.Core.Bool.{Bool}
 use mathlib.Core.List.{List}
 use Rattle.base.specs.Lists.{each, only}
+use Rattle.numbers.specs.Bytes.{shortRange, wordRange}
 use Rattle.oce_model.specs.Attributes.{Attrs}
 use Rattle.oce_model.specs.Model.{Model, modelOf, connector, boundaryInput, boundaryOutput}
 use Rattle.oce_model.specs.declared.Connector.{Connector}
@@ -58,24 +59,17 @@ module _ (m : Model) (i : ℕ) {a : Attrs} {b b′ : List ℕ} {c c′ : Counted
 -- ---- all records of a kind: their numbers fit
 
 module _ {s : List ℕ} {l : Layout} (h : Laid s l) where
-  pub connectors-room : l .connectors .count ≤ 65536
+  pub connectors-room : l .connectors .count ≤ shortRange
   connectors-room = omega (arith, connectors-few h)
 
-  pub inputs-room : l .inputs .count ≤ 65536
+  pub inputs-room : l .inputs .count ≤ shortRange
   inputs-room = omega (arith, boundary-inputs-few h)
 
-  pub outputs-room : l .outputs .count ≤ 65536
+  pub outputs-room : l .outputs .count ≤ shortRange
   outputs-room = omega (arith, boundary-outputs-few h)
 
-pub number-small : {i n : ℕ} → i < n → n ≤ 65536 → i < 4294967296
+pub number-small : {i n : ℕ} → i < n → n ≤ shortRange → i < wordRange
 number-small k h = omega arith
-
-module _ {f : ℕ → List Diagnostic} {m : ℕ} {b₀ : List ℕ} {c₀ : Counted} {b : List ℕ} {c : Counted} {i : ℕ} (v : Emits f 1 m b₀ c₀ b c i) where
-  pub emits-small : total c₀ ≤ 1000000 → m ≤ 65536 → total c ≤ 2000000
-  emits-small k h = omega (arith, v .few, v .within)
-
-  pub emits-one : m ≤ i → total c ≤ total c₀ + m
-  emits-one h = omega (arith, v .few, v .within)
 
 -- ---- the whole rule
 

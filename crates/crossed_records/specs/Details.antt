@@ -1,6 +1,7 @@
 -- Details 1 to 3 of rule 5, for one record each.
-use Prim.Native.Nat.{ℕ}
+use Prim.Native.Nat.{ℕ, _+_}
 use mathlib.Core.List.{List}
+use Rattle.oce_model.specs.Format.{mostConnectors, mostBoundaryInputs, mostBoundaryOutputs}
 use Rattle.oce_model.specs.Model.{Model, connector, boundaryInput, boundaryOutput}
 use Rattle.oce_diag.specs.Diagnostics.{subjectOf}
 use Rattle.oce_diag.specs.declared.Diagnostic.{Diagnostic}
@@ -18,4 +19,4 @@ outputCrossed m i = crossedFaults m 3 (Text (boundaryOutput m i .iri)) i (bounda
 
 -- the most diagnostics of rule 5: one for each connector, boundary input and boundary output, and one for each member of a group
 abbrev pub mostCrossed : ℕ
-mostCrossed = 2816
+mostCrossed = mostConnectors + mostBoundaryInputs + mostBoundaryOutputs + (mostConnectors + mostBoundaryInputs)

@@ -18,11 +18,11 @@ use image_records::connector;
 use image_records::connector_attrs;
 ghost use Prim.Native.Nat.{_+_, _<_, _≤_};
 ghost use Rattle.base.specs.Lists.{each, only};
-ghost use Rattle.oce_model.specs.Format.{textTag};
+ghost use Rattle.oce_model.specs.Format.{textTag, mostConnectors, mostBoundaryInputs, mostBoundaryOutputs};
 ghost use Rattle.oce_model.specs.Model.{modelOf};
 ghost use Rattle.oce_diag.specs.Diagnostics.{error};
 ghost use Rattle.oce_diag.specs.declared.DiagCode.the-variants.{CrossedBounds};
-ghost use Rattle.oce_diag.specs.Putting.{total, Put};
+ghost use Rattle.oce_diag.specs.Putting.{Put, Countable, Adds};
 ghost use Rattle.image_accept.specs.Layout.{Laid, Tabled};
 ghost use Rattle.structural_externals.specs.Columns.{Listed};
 ghost use Rattle.crossed_bounds.specs.CrossedBounds.{rule5};
@@ -37,8 +37,8 @@ fn put_crossed(
     subject: Subject,
     i: u32,
 ) -> Counted
-    requires { ⌜ total counted ≤ 2000000 ⌝ }
-    ensures { λ r. ⌜ Put (now (report .entry)) counted (only bad (error CrossedBounds 5 detail subject i)) (now (report .exit)) r × (total r ≤ total counted + 1) ⌝ }
+    requires { ⌜ Countable 1 counted ⌝ }
+    ensures { λ r. ⌜ Put (now (report .entry)) counted (only bad (error CrossedBounds 5 detail subject i)) (now (report .exit)) r × Adds 1 counted r ⌝ }
 {
     let d = error(DiagCode::CrossedBounds, 5, detail, subject, i);
     put_if(report, counted, bad, d)
@@ -53,8 +53,8 @@ pub fn connector_crossed(
     report: &mut [u8],
     counted: Counted,
 ) -> Counted
-    requires { ⌜ Laid (now image) layout × (i .0 < layout .connectors .count) × (total counted ≤ 2000000) ⌝ }
-    ensures { λ r. ⌜ Put (now (report .entry)) counted (connectorCrossed (modelOf (now (image .entry))) (i .0)) (now (report .exit)) r × (total r ≤ total counted + 1) ⌝ }
+    requires { ⌜ Laid (now image) layout × (i .0 < layout .connectors .count) × Countable 1 counted ⌝ }
+    ensures { λ r. ⌜ Put (now (report .entry)) counted (connectorCrossed (modelOf (now (image .entry))) (i .0)) (now (report .exit)) r × Adds 1 counted r ⌝ }
 {
     let c = connector(image, layout, i);
     let id = c.id;
@@ -65,8 +65,8 @@ pub fn connector_crossed(
 }
 
 fn connectors_crossed(image: &[u8], layout: Layout, report: &mut [u8], counted: Counted) -> Counted
-    requires { ⌜ Laid (now image) layout × (total counted ≤ 1000000) ⌝ }
-    ensures { λ r. ⌜ Put (now (report .entry)) counted (each (layout .connectors .count) (connectorCrossed (modelOf (now (image .entry))))) (now (report .exit)) r × (total r ≤ total counted + layout .connectors .count) ⌝ }
+    requires { ⌜ Laid (now image) layout × Countable mostConnectors counted ⌝ }
+    ensures { λ r. ⌜ Put (now (report .entry)) counted (each (layout .connectors .count) (connectorCrossed (modelOf (now (image .entry))))) (now (report .exit)) r × Adds mostConnectors counted r ⌝ }
 {
     let connectors = layout.connectors;
     let n = connectors.count;
@@ -88,8 +88,8 @@ pub fn input_crossed(
     report: &mut [u8],
     counted: Counted,
 ) -> Counted
-    requires { ⌜ Laid (now image) layout × (i < layout .inputs .count) × (total counted ≤ 2000000) ⌝ }
-    ensures { λ r. ⌜ Put (now (report .entry)) counted (inputCrossed (modelOf (now (image .entry))) i) (now (report .exit)) r × (total r ≤ total counted + 1) ⌝ }
+    requires { ⌜ Laid (now image) layout × (i < layout .inputs .count) × Countable 1 counted ⌝ }
+    ensures { λ r. ⌜ Put (now (report .entry)) counted (inputCrossed (modelOf (now (image .entry))) i) (now (report .exit)) r × Adds 1 counted r ⌝ }
 {
     let iri = boundary_input_iri(image, layout, i);
     let subject = Subject::Text(iri as u32);
@@ -99,8 +99,8 @@ pub fn input_crossed(
 }
 
 fn inputs_crossed(image: &[u8], layout: Layout, report: &mut [u8], counted: Counted) -> Counted
-    requires { ⌜ Laid (now image) layout × (total counted ≤ 1000000) ⌝ }
-    ensures { λ r. ⌜ Put (now (report .entry)) counted (each (layout .inputs .count) (inputCrossed (modelOf (now (image .entry))))) (now (report .exit)) r × (total r ≤ total counted + layout .inputs .count) ⌝ }
+    requires { ⌜ Laid (now image) layout × Countable mostBoundaryInputs counted ⌝ }
+    ensures { λ r. ⌜ Put (now (report .entry)) counted (each (layout .inputs .count) (inputCrossed (modelOf (now (image .entry))))) (now (report .exit)) r × Adds mostBoundaryInputs counted r ⌝ }
 {
     let inputs = layout.inputs;
     let n = inputs.count;
@@ -122,8 +122,8 @@ pub fn output_crossed(
     report: &mut [u8],
     counted: Counted,
 ) -> Counted
-    requires { ⌜ Laid (now image) layout × (i < layout .outputs .count) × (total counted ≤ 2000000) ⌝ }
-    ensures { λ r. ⌜ Put (now (report .entry)) counted (outputCrossed (modelOf (now (image .entry))) i) (now (report .exit)) r × (total r ≤ total counted + 1) ⌝ }
+    requires { ⌜ Laid (now image) layout × (i < layout .outputs .count) × Countable 1 counted ⌝ }
+    ensures { λ r. ⌜ Put (now (report .entry)) counted (outputCrossed (modelOf (now (image .entry))) i) (now (report .exit)) r × Adds 1 counted r ⌝ }
 {
     let o = boundary_output(image, layout, i);
     let subject = Subject::Text(o.iri as u32);
@@ -133,8 +133,8 @@ pub fn output_crossed(
 }
 
 fn outputs_crossed(image: &[u8], layout: Layout, report: &mut [u8], counted: Counted) -> Counted
-    requires { ⌜ Laid (now image) layout × (total counted ≤ 1000000) ⌝ }
-    ensures { λ r. ⌜ Put (now (report .entry)) counted (each (layout .outputs .count) (outputCrossed (modelOf (now (image .entry))))) (now (report .exit)) r × (total r ≤ total counted + layout .outputs .count) ⌝ }
+    requires { ⌜ Laid (now image) layout × Countable mostBoundaryOutputs counted ⌝ }
+    ensures { λ r. ⌜ Put (now (report .entry)) counted (each (layout .outputs .count) (outputCrossed (modelOf (now (image .entry))))) (now (report .exit)) r × Adds mostBoundaryOutputs counted r ⌝ }
 {
     let outputs = layout.outputs;
     let n = outputs.count;
@@ -158,8 +158,8 @@ pub fn check_crossed_bounds<'a>(
     report: &mut [u8],
     counted: Counted,
 ) -> Counted
-    requires { ⌜ Laid (now image) layout × Tabled textTag (now image) (now texts) × Listed (modelOf (now image)) (now externals) × (total counted ≤ 900000) ⌝ }
-    ensures { λ r. ⌜ Put (now (report .entry)) counted (rule5 (modelOf (now (image .entry)))) (now (report .exit)) r × (total r ≤ total counted + mostCrossed) ⌝ }
+    requires { ⌜ Laid (now image) layout × Tabled textTag (now image) (now texts) × Listed (modelOf (now image)) (now externals) × Countable mostCrossed counted ⌝ }
+    ensures { λ r. ⌜ Put (now (report .entry)) counted (rule5 (modelOf (now (image .entry)))) (now (report .exit)) r × Adds mostCrossed counted r ⌝ }
 {
     let a = connectors_crossed(image, layout, report, counted);
     let b = inputs_crossed(image, layout, report, a);

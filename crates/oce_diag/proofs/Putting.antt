@@ -1,6 +1,6 @@
 -- Laws of a report that diagnostics are put into: one run after another, and a loop that puts some in each turn.
 use Prim.Native.Nat.{ℕ, suc, _+_, _*_, _≤_, _<_}
-use native.Mathlib.Nat.{add-zero, mul-zero, mul-suc}
+use native.Mathlib.Nat.{add-zero, mul-zero, mul-suc, mul-le-mul-left}
 use native.Mathlib.Numerals.{add-one}
 use native.Mathlib.Omega.{arith}
 use mathlib.Core.Path.{_≡_, refl, sym, ap, _∙_}
@@ -15,7 +15,7 @@ use Rattle.base.proofs.Lists.{each-next}
 use Rattle.base.proofs.Buffers.{patch-none, patch-length, patch-patch, startsWith-patch}
 use Rattle.oce_diag.specs.Diagnostics.{errors, warnings}
 use Rattle.oce_diag.specs.Encoding.{diagnosticSize, diagnosticBytes, reportBytes}
-use Rattle.oce_diag.specs.Putting.{putOne, putAll, total, Put, Emits}
+use Rattle.oce_diag.specs.Putting.{putOne, putAll, total, Countable, Adds, Put, Emits}
 use Rattle.oce_diag.specs.declared.Diagnostic.{Diagnostic}
 use Rattle.oce_diag.specs.declared.Counted.{Counted}
 use Rattle.oce_diag.proofs.Diagnostics.{errors-append, warnings-append, errors-warnings}
@@ -148,7 +148,7 @@ module _ {f : ℕ → List Diagnostic} {k m : ℕ} {b₀ : List ℕ} {c₀ : Cou
   emits-start = record { within = omega arith; few = omega (arith, mul-zero k); put = put-none }
 
   pub emits-turn : {b b′ : List ℕ} {c c′ : Counted} {i : ℕ}
-      → Emits f k m b₀ c₀ b c i → Put b c (f i) b′ c′ → total c′ ≤ total c + k → i < m → Emits f k m b₀ c₀ b′ c′ (i + 1)
+      → Emits f k m b₀ c₀ b c i → Put b c (f i) b′ c′ → Adds k c c′ → i < m → Emits f k m b₀ c₀ b′ c′ (i + 1)
   emits-turn {i = i} v p l h = record {
     within = omega arith;
     few = omega (arith, v .few, mul-suc k i, ap (λ (x : ℕ). k * x) (add-one i));
@@ -158,8 +158,24 @@ module _ {f : ℕ → List Diagnostic} {k m : ℕ} {b₀ : List ℕ} {c₀ : Cou
   pub emits-put : {b : List ℕ} {c : Counted} {i : ℕ} → Emits f k m b₀ c₀ b c i → m ≤ i → Put b₀ c₀ (each m f) b c
   emits-put {i = i} v h = let e : m ≡ i = omega (arith, v .within) in rw e (v .put)
 
-  pub emits-few : {b : List ℕ} {c : Counted} {i : ℕ} → Emits f k m b₀ c₀ b c i → m ≤ i → total c ≤ total c₀ + k * m
+  pub emits-few : {b : List ℕ} {c : Counted} {i : ℕ} → Emits f k m b₀ c₀ b c i → m ≤ i → Adds (k * m) c₀ c
   emits-few {i = i} v h = let e : m ≡ i = omega (arith, v .within) in rw e (v .few)
+
+  -- where at most n turns can come: how many it has counted in the end, and that each turn may count its own
+  module _ {b : List ℕ} {c : Counted} {i : ℕ} (n : ℕ) (v : Emits f k m b₀ c₀ b c i) where
+    pub emits-adds : m ≤ n → Adds (k * n) c₀ c
+    emits-adds h = omega (arith, v .few, mul-le-mul-left {i} {n} k (omega (arith, v .within)))
+
+    pub emits-countable : m ≤ n → Countable (k * n) c₀ → i < m → Countable k c
+    emits-countable h e l = omega (arith, v .few, mul-suc k i, mul-le-mul-left {suc i} {n} k (omega arith))
 
   pub emits-length : {b : List ℕ} {c : Counted} {i : ℕ} → Emits f k m b₀ c₀ b c i → length b ≡ length b₀
   emits-length v = put-length (v .put)
+
+-- the same where each turn puts one at most
+module _ {f : ℕ → List Diagnostic} {m : ℕ} {b₀ : List ℕ} {c₀ : Counted} {b : List ℕ} {c : Counted} {i n : ℕ} (v : Emits f 1 m b₀ c₀ b c i) where
+  pub emits-ones : m ≤ n → Adds n c₀ c
+  emits-ones h = omega (arith, v .few, v .within)
+
+  pub emits-one : m ≤ n → Countable n c₀ → i < m → Countable 1 c
+  emits-one h e l = omega (arith, v .few)

@@ -1,5 +1,5 @@
 -- Diagnostics put into a report one after the other: each is written where it fits, and counted in any case.
-use Prim.Native.Nat.{ℕ, suc, _+_, _*_, _≤_}
+use Prim.Native.Nat.{ℕ, suc, _+_, _*_, _≤_, _<_}
 use mathlib.Core.Path.{_≡_}
 use mathlib.Core.Bool.{cond}
 use mathlib.Core.List.{List, [], _∷_}
@@ -7,6 +7,7 @@ use lib.Dec.{leb}
 use lib.ListN.{length}
 use Rattle.base.specs.Lists.{each}
 use Rattle.base.specs.Buffers.{patch}
+use Rattle.numbers.specs.Bytes.{wordRange}
 use Rattle.oce_diag.specs.Diagnostics.{errors, warnings}
 use Rattle.oce_diag.specs.Encoding.{diagnosticSize, diagnosticBytes}
 use Rattle.oce_diag.specs.declared.Diagnostic.{Diagnostic}
@@ -24,6 +25,14 @@ putAll b n (d ∷ ds) = putAll (putOne b n d) (suc n) ds
 -- how many were counted
 abbrev pub total : Counted → ℕ
 total c = c .errors + c .warnings
+
+-- n more can be counted: the sum stays within four bytes
+abbrev pub Countable : ℕ → Counted → Type 0
+Countable n c = total c + n < wordRange
+
+-- at most n more were counted
+abbrev pub Adds : ℕ → Counted → Counted → Type 0
+Adds n c c′ = total c′ ≤ total c + n
 
 -- a report b in which c were counted has become b′ with c′, by ds
 pub record Put (b : List ℕ) (c : Counted) (ds : List Diagnostic) (b′ : List ℕ) (c′ : Counted) : Type 0 where

@@ -10,7 +10,7 @@ ghost use Prim.Native.Nat.{_+_, _<_, _≤_};
 ghost use Rattle.base.specs.Lists.{only};
 ghost use Rattle.oce_diag.specs.Diagnostics.{connectorSubject, blockSubject, error, warning, errors, warnings};
 ghost use Rattle.oce_diag.specs.Encoding.{severityNumber, codeNumber, subjectKind, subjectNumber, diagnosticBytes};
-ghost use Rattle.oce_diag.specs.Putting.{putOne, total, Put};
+ghost use Rattle.oce_diag.specs.Putting.{putOne, total, Put, Countable, Adds};
 ghost use Rattle.numbers.specs.Bytes.{shortRange, wordRange, byte};
 ghost use Rattle.oce_diag.specs.Decoded.{severityOf, codeOf, subjectFrom, diagnosticAt};
 
@@ -233,7 +233,7 @@ fn write(report: &mut [u8], n: usize, d: Diagnostic)
 
 // One more error or one more warning.
 fn count(c: Counted, d: Diagnostic) -> Counted
-    requires { ⌜ total c < wordRange ⌝ }
+    requires { ⌜ Countable 1 c ⌝ }
     ensures { λ r. ⌜ (r .errors ≡ c .errors + errors (d ∷ [])) × (r .warnings ≡ c .warnings + warnings (d ∷ [])) × (total r ≡ total c + 1) ⌝ }
 {
     let severity = d.severity;
@@ -251,8 +251,8 @@ fn count(c: Counted, d: Diagnostic) -> Counted
 
 // The next diagnostic of a report: written where there is room for it, and counted in any case.
 pub fn put(report: &mut [u8], counted: Counted, d: Diagnostic) -> Counted
-    requires { ⌜ total counted < wordRange ⌝ }
-    ensures { λ r. ⌜ Put (now (report .entry)) counted (d ∷ []) (now (report .exit)) r × (total r ≤ total counted + 1) ⌝ }
+    requires { ⌜ Countable 1 counted ⌝ }
+    ensures { λ r. ⌜ Put (now (report .entry)) counted (d ∷ []) (now (report .exit)) r × Adds 1 counted r ⌝ }
 {
     write(report, counted.errors + counted.warnings, d);
     count(counted, d)
@@ -260,8 +260,8 @@ pub fn put(report: &mut [u8], counted: Counted, d: Diagnostic) -> Counted
 
 // Puts a diagnostic where a test passes.
 pub fn put_if(report: &mut [u8], counted: Counted, bad: bool, d: Diagnostic) -> Counted
-    requires { ⌜ total counted < wordRange ⌝ }
-    ensures { λ r. ⌜ Put (now (report .entry)) counted (only bad d) (now (report .exit)) r × (total r ≤ total counted + 1) ⌝ }
+    requires { ⌜ Countable 1 counted ⌝ }
+    ensures { λ r. ⌜ Put (now (report .entry)) counted (only bad d) (now (report .exit)) r × Adds 1 counted r ⌝ }
 {
     if bad {
         return put(report, counted, d);

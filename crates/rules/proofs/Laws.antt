@@ -13,7 +13,7 @@ use Rattle.oce_model.specs.Model.{Model, modelOf, connectorCount}
 use Rattle.oce_diag.specs.Diagnostics.{hasError, errors}
 use Rattle.oce_diag.specs.declared.Diagnostic.{Diagnostic}
 use Rattle.oce_diag.specs.declared.Counted.{Counted}
-use Rattle.oce_diag.specs.Putting.{total, Put}
+use Rattle.oce_diag.specs.Putting.{total, Adds, Put}
 use Rattle.oce_diag.proofs.Diagnostics.{errors-append, no-errors, some-error}
 use Rattle.oce_diag.proofs.Putting.{put-then}
 use Rattle.image_accept.specs.Layout.{Laid}
@@ -27,7 +27,7 @@ use Rattle.crossed_bounds.specs.CrossedBounds.{rule5}
 use Rattle.unify.specs.Unify.{rule6, propagated}
 use Rattle.unify_clusters.specs.Unified.{wholeRule6, Unified}
 use Rattle.outcome.specs.Report.{allRules, report}
-use Rattle.rules.specs.Ran.{fewRecords, none, firstFive, mostDiagnostics, Ran}
+use Rattle.rules.specs.Ran.{fewRecords, none, firstFive, mostFirstFive, mostDiagnostics, Ran}
 
 all-is : (m : Model) → firstFive m ++ rule6 m ≡ allRules m
 unfolding firstFive allRules
@@ -62,7 +62,7 @@ ran-put m {b} {b′} {b″} {c′} {c″} p q =
     rw (← (report-is m)) (put-then p r)
 
 module _ {s : List ℕ} {l : Layout} (h : Laid s l) where
-  pub ran : {ks ms ns b b′ b″ : List ℕ} {c′ c″ : Counted} → Put b none (firstFive (modelOf s)) b′ c′ → total c′ ≤ 500000
+  pub ran : {ks ms ns b b′ b″ : List ℕ} {c′ c″ : Counted} → Put b none (firstFive (modelOf s)) b′ c′ → Adds mostFirstFive none c′
       → Unified (modelOf s) (slotCount (modelOf s)) ks ms ns b′ c′ b″ c″ → Ran (modelOf s) ks ms ns b b″ c″
   ran p few u = record {
     slots = u .slots;

@@ -2,7 +2,7 @@
 use Prim.Native.Nat.{ℕ, _+_, _*_, _≤_}
 use mathlib.Core.Path.{_≡_}
 use mathlib.Core.List.{List, _++_}
-use Rattle.oce_model.specs.Format.{textTag, blockTag}
+use Rattle.oce_model.specs.Format.{textTag, blockTag, mostConnectors, mostConnections, mostBoundaryOutputs}
 use Rattle.oce_model.specs.Model.{Model, modelOf}
 use Rattle.image_accept.specs.Layout.{Laid, Tabled}
 use Rattle.image_accept.specs.declared.Layout.{Layout}
@@ -10,7 +10,11 @@ use Rattle.oce_diag.specs.declared.Diagnostic.{Diagnostic}
 use Rattle.oce_diag.specs.declared.Counted.{Counted}
 use Rattle.oce_diag.specs.Putting.{total, Put}
 use Rattle.structural.specs.Structural.{rule1, rule2, rule3, rule4}
+use Rattle.structural_arena_ids.specs.PerRecord.{mostArenaFaults}
+use Rattle.structural_wiring.specs.PerRecord.{mostOutputFaults, mostConnectionFaults}
+use Rattle.structural_assignment.specs.PerRecord.{mostAssignmentFaults}
 use Rattle.crossed_bounds.specs.CrossedBounds.{rule5}
+use Rattle.crossed_records.specs.Details.{mostCrossed}
 use Rattle.unify.specs.Unify.{filledSlots}
 use Rattle.unify_slots.specs.Columns.{slotCount, view, Room}
 use Rattle.outcome.specs.Report.{report}
@@ -33,6 +37,16 @@ none = record { errors = 0; warnings = 0 }
 -- rules 1 to 5, as they are run
 unfoldable pub firstFive : Model → List Diagnostic
 firstFive m = (rule1 m ++ rule2 m) ++ (rule3 m ++ rule4 m) ++ rule5 m
+
+-- the most that rules 1 and 2, 3 and 4, and 1 to 5 report
+abbrev pub mostFirstTwo : ℕ
+mostFirstTwo = mostArenaFaults + mostOutputFaults * mostBoundaryOutputs
+
+abbrev pub mostSecondTwo : ℕ
+mostSecondTwo = mostAssignmentFaults * mostConnectors + mostConnectionFaults * mostConnections
+
+abbrev pub mostFirstFive : ℕ
+mostFirstFive = mostFirstTwo + mostSecondTwo + mostCrossed
 
 -- a bound that keeps sums small: no accepted image gives as many diagnostics
 abbrev pub mostDiagnostics : ℕ

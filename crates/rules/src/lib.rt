@@ -15,13 +15,13 @@ ghost use mathlib.Core.List.{_++_};
 ghost use Prim.Native.Nat.{_+_, _*_, _≤_};
 ghost use Rattle.oce_model.specs.Format.{textTag, blockTag};
 ghost use Rattle.oce_model.specs.Model.{modelOf};
-ghost use Rattle.oce_diag.specs.Putting.{total, Put};
+ghost use Rattle.oce_diag.specs.Putting.{Put, Countable, Adds};
 ghost use Rattle.image_accept.specs.Layout.{Laid, Tabled};
 ghost use Rattle.structural.specs.Structural.{rule1, rule2, rule3, rule4};
 ghost use Rattle.structural_degrees.specs.Columns.{Degrees};
 ghost use Rattle.structural_externals.specs.Columns.{Listed};
 ghost use Rattle.unify_slots.specs.Columns.{slotCount, Room};
-ghost use Rattle.rules.specs.Ran.{fewRecords, firstFive, Ready, Ran};
+ghost use Rattle.rules.specs.Ran.{fewRecords, firstFive, Ready, Ran, mostFirstTwo, mostSecondTwo, mostFirstFive};
 
 // So many connectors, and so many external inputs, have shorter columns, which are sooner cleared.
 const FEW_RECORDS: usize = 192;
@@ -36,8 +36,8 @@ fn ids_and_outputs(
     report: &mut [u8],
     counted: Counted,
 ) -> Counted
-    requires { ⌜ Laid (now image) layout × Tabled blockTag (now image) (now blocks) × (total counted ≤ 0) ⌝ }
-    ensures { λ r. ⌜ Put (now (report .entry)) counted (rule1 (modelOf (now (image .entry))) ++ rule2 (modelOf (now (image .entry)))) (now (report .exit)) r × (total r ≤ 200000) ⌝ }
+    requires { ⌜ Laid (now image) layout × Tabled blockTag (now image) (now blocks) × Countable mostFirstTwo counted ⌝ }
+    ensures { λ r. ⌜ Put (now (report .entry)) counted (rule1 (modelOf (now (image .entry))) ++ rule2 (modelOf (now (image .entry)))) (now (report .exit)) r × Adds mostFirstTwo counted r ⌝ }
 {
     let c = check_arena_ids(image, layout, blocks, report, counted);
     check_boundary_outputs(image, layout, report, c)
@@ -52,8 +52,8 @@ fn assignments_and_connections(
     report: &mut [u8],
     counted: Counted,
 ) -> Counted
-    requires { ⌜ Laid (now image) layout × Degrees (modelOf (now image)) (now degrees) × Listed (modelOf (now image)) (now externals) × (total counted ≤ 200000) ⌝ }
-    ensures { λ r. ⌜ Put (now (report .entry)) counted (rule3 (modelOf (now (image .entry))) ++ rule4 (modelOf (now (image .entry)))) (now (report .exit)) r × (total r ≤ 300000) ⌝ }
+    requires { ⌜ Laid (now image) layout × Degrees (modelOf (now image)) (now degrees) × Listed (modelOf (now image)) (now externals) × Countable mostSecondTwo counted ⌝ }
+    ensures { λ r. ⌜ Put (now (report .entry)) counted (rule3 (modelOf (now (image .entry))) ++ rule4 (modelOf (now (image .entry)))) (now (report .exit)) r × Adds mostSecondTwo counted r ⌝ }
 {
     let c = check_single_assignment(image, layout, degrees, externals, report, counted);
     check_connections(image, layout, report, c)
@@ -70,8 +70,8 @@ fn first_five<'a>(
     report: &mut [u8],
     counted: Counted,
 ) -> Counted
-    requires { ⌜ Laid (now image) layout × Tabled textTag (now image) (now texts) × Tabled blockTag (now image) (now blocks) × Degrees (modelOf (now image)) (now degrees) × Listed (modelOf (now image)) (now externals) × (total counted ≤ 0) ⌝ }
-    ensures { λ r. ⌜ Put (now (report .entry)) counted (firstFive (modelOf (now (image .entry)))) (now (report .exit)) r × (total r ≤ 500000) ⌝ }
+    requires { ⌜ Laid (now image) layout × Tabled textTag (now image) (now texts) × Tabled blockTag (now image) (now blocks) × Degrees (modelOf (now image)) (now degrees) × Listed (modelOf (now image)) (now externals) × Countable mostFirstFive counted ⌝ }
+    ensures { λ r. ⌜ Put (now (report .entry)) counted (firstFive (modelOf (now (image .entry)))) (now (report .exit)) r × Adds mostFirstFive counted r ⌝ }
 {
     let a = ids_and_outputs(image, layout, blocks, report, counted);
     let b = assignments_and_connections(image, layout, degrees, externals, report, a);

@@ -125,20 +125,7 @@ module _ {s : List ℕ} {l : Layout} (h : Laid s l) where
   unfolding rule1
   rule1-put p q = rw (← (blocks-counted h), ← (connectors-counted h)) (put-then p q)
 
-  -- how many the loops can give
-  pub blocks-bound : (t : ℕ) {a : ℕ} → a ≤ t + 513 * l .blocks .count → a ≤ t + 513 * mostBlocks
-  blocks-bound t e = let n = blocks-few h in omega arith
-
-  pub connectors-bound : (t : ℕ) {a : ℕ} → a ≤ t + 2 * l .connectors .count → a ≤ t + 2 * mostConnectors
-  connectors-bound t e = let n = connectors-few h in omega arith
-
-  -- a turn of either loop has room
-  pub blocks-room : {i : ℕ} {b₀ b : List ℕ} {c₀ c : Counted} {f : ℕ → List Diagnostic} → Emits f 513 (l .blocks .count) b₀ c₀ b c i → total c₀ ≤ 100000 → total c ≤ 800000
-  blocks-room p e = let n = blocks-few h in let q = p .few in let w = p .within in omega arith
-
-  pub connectors-room : {i : ℕ} {b₀ b : List ℕ} {c₀ c : Counted} {f : ℕ → List Diagnostic} → Emits f 2 (l .connectors .count) b₀ c₀ b c i → total c₀ ≤ 500000 → total c ≤ 800000
-  connectors-room p e = let n = connectors-few h in let q = p .few in let w = p .within in omega arith
-
+  -- numbers of records fit
   pub block-number : {i : ℕ} → i < l .blocks .count → Fits w32 i
   block-number e = record { fits = (let n = blocks-few h in omega arith) }
 

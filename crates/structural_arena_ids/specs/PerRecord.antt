@@ -5,7 +5,7 @@ use mathlib.Core.List.{List, _++_}
 use lib.Dec.{eqb, ltb}
 use Rattle.base.specs.Lists.{only}
 use Rattle.numbers.specs.Bytes.{le32}
-use Rattle.oce_model.specs.Format.{portLength}
+use Rattle.oce_model.specs.Format.{portLength, mostPorts, mostBlocks, mostConnectors}
 use Rattle.oce_diag.specs.Diagnostics.{error}
 use Rattle.oce_diag.specs.declared.Diagnostic.{Diagnostic}
 use Rattle.oce_diag.specs.declared.Subject.{Subject}
@@ -20,3 +20,13 @@ unfoldable pub idAndBlock : ℕ → ℕ → ℕ → ℕ → Subject → List Dia
 idAndBlock i id block n subject =
     only (not (eqb id i)) (error MalformedDocument 1 4 subject i)
     ++ only (not (ltb block n)) (error MalformedDocument 1 5 subject i)
+
+-- the most that rule 1 reports of a block (its id, and each port), of a connector, and of a model
+abbrev pub mostBlockFaults : ℕ
+mostBlockFaults = 1 + 2 * mostPorts
+
+abbrev pub mostConnectorFaults : ℕ
+mostConnectorFaults = 2
+
+abbrev pub mostArenaFaults : ℕ
+mostArenaFaults = mostBlockFaults * mostBlocks + mostConnectorFaults * mostConnectors

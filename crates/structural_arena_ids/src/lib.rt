@@ -22,10 +22,10 @@ ghost use Rattle.base.specs.Lists.{each};
 ghost use Rattle.oce_model.specs.Format.{longestImage, mostPorts, portLength, blockPorts, blockTag, mostBlocks, mostConnectors};
 ghost use mathlib.Core.List.{_++_};
 ghost use Rattle.oce_model.specs.Model.{modelOf, block, connector, connectorCount};
-ghost use Rattle.oce_diag.specs.Putting.{Put, total};
+ghost use Rattle.oce_diag.specs.Putting.{Put, Countable, Adds};
 ghost use Rattle.structural.specs.Structural.{blockFaults, connectorFaults, rule1};
 ghost use Rattle.image_accept.specs.Layout.{Laid, Tabled};
-ghost use Rattle.structural_arena_ids.specs.PerRecord.{portFault, idAndBlock};
+ghost use Rattle.structural_arena_ids.specs.PerRecord.{portFault, idAndBlock, mostBlockFaults, mostConnectorFaults, mostArenaFaults};
 
 // ---- blocks
 
@@ -40,8 +40,8 @@ fn port_fault(
     report: &mut [u8],
     counted: Counted,
 ) -> Counted
-    requires { ⌜ (ids ≤ longestImage + longestImage) × (j ≤ longestImage) × (ids + portLength * j + portLength ≤ length (now image)) × (total counted ≤ 1000000) ⌝ }
-    ensures { λ r. ⌜ Put (now (report .entry)) counted (portFault n subject detail (now (image .entry)) ids j) (now (report .exit)) r × (total r ≤ total counted + 1) ⌝ }
+    requires { ⌜ (ids ≤ longestImage + longestImage) × (j ≤ longestImage) × (ids + portLength * j + portLength ≤ length (now image)) × Countable 1 counted ⌝ }
+    ensures { λ r. ⌜ Put (now (report .entry)) counted (portFault n subject detail (now (image .entry)) ids j) (now (report .exit)) r × Adds 1 counted r ⌝ }
 {
     let id = port(image, ids, j);
     put_if(
@@ -63,8 +63,8 @@ fn port_faults(
     report: &mut [u8],
     counted: Counted,
 ) -> Counted
-    requires { ⌜ (ids ≤ longestImage + longestImage) × (count ≤ mostPorts) × (ids + portLength * count ≤ length (now image)) × (total counted ≤ 900000) ⌝ }
-    ensures { λ r. ⌜ Put (now (report .entry)) counted (each count (portFault n subject detail (now (image .entry)) ids)) (now (report .exit)) r × (total r ≤ total counted + 1 * count) ⌝ }
+    requires { ⌜ (ids ≤ longestImage + longestImage) × (count ≤ mostPorts) × (ids + portLength * count ≤ length (now image)) × Countable count counted ⌝ }
+    ensures { λ r. ⌜ Put (now (report .entry)) counted (each count (portFault n subject detail (now (image .entry)) ids)) (now (report .exit)) r × Adds count counted r ⌝ }
 {
     let mut c = counted;
     let mut j = 0;
@@ -86,8 +86,8 @@ fn block_ports(
     report: &mut [u8],
     counted: Counted,
 ) -> Counted
-    requires { ⌜ (at ≤ longestImage) × (inputs ≤ mostPorts) × (outputs ≤ mostPorts) × (at + blockPorts + portLength * (inputs + outputs) ≤ length (now image)) × (total counted ≤ 850000) ⌝ }
-    ensures { λ r. ⌜ Put (now (report .entry)) counted (each inputs (portFault n subject 2 (now (image .entry)) (at + blockPorts)) ++ each outputs (portFault n subject 3 (now (image .entry)) (at + blockPorts + portLength * inputs))) (now (report .exit)) r × (total r ≤ total counted + 512) ⌝ }
+    requires { ⌜ (at ≤ longestImage) × (inputs ≤ mostPorts) × (outputs ≤ mostPorts) × (at + blockPorts + portLength * (inputs + outputs) ≤ length (now image)) × Countable (2 * mostPorts) counted ⌝ }
+    ensures { λ r. ⌜ Put (now (report .entry)) counted (each inputs (portFault n subject 2 (now (image .entry)) (at + blockPorts)) ++ each outputs (portFault n subject 3 (now (image .entry)) (at + blockPorts + portLength * inputs))) (now (report .exit)) r × Adds (2 * mostPorts) counted r ⌝ }
 {
     let c = port_faults(
         image,
@@ -119,8 +119,8 @@ pub fn block_faults(
     report: &mut [u8],
     counted: Counted,
 ) -> Counted
-    requires { ⌜ Laid (now image) layout × Tabled blockTag (now image) (now blocks) × (i .0 < layout .blocks .count) × (total counted ≤ 800000) ⌝ }
-    ensures { λ r. ⌜ Put (now (report .entry)) counted (blockFaults (modelOf (now (image .entry))) (i .0) (block (modelOf (now (image .entry))) (i .0))) (now (report .exit)) r × (total r ≤ total counted + 513) ⌝ }
+    requires { ⌜ Laid (now image) layout × Tabled blockTag (now image) (now blocks) × (i .0 < layout .blocks .count) × Countable mostBlockFaults counted ⌝ }
+    ensures { λ r. ⌜ Put (now (report .entry)) counted (blockFaults (modelOf (now (image .entry))) (i .0) (block (modelOf (now (image .entry))) (i .0))) (now (report .exit)) r × Adds mostBlockFaults counted r ⌝ }
 {
     let at = block_offset(image, layout, blocks, i);
     let b = block(image, at);
@@ -148,8 +148,8 @@ fn all_blocks(
     report: &mut [u8],
     counted: Counted,
 ) -> Counted
-    requires { ⌜ Laid (now image) layout × Tabled blockTag (now image) (now blocks) × (total counted ≤ 100000) ⌝ }
-    ensures { λ r. ⌜ Put (now (report .entry)) counted (each (layout .blocks .count) (λ i. blockFaults (modelOf (now (image .entry))) i (block (modelOf (now (image .entry))) i))) (now (report .exit)) r × (total r ≤ total counted + 513 * mostBlocks) ⌝ }
+    requires { ⌜ Laid (now image) layout × Tabled blockTag (now image) (now blocks) × Countable (mostBlockFaults * mostBlocks) counted ⌝ }
+    ensures { λ r. ⌜ Put (now (report .entry)) counted (each (layout .blocks .count) (λ i. blockFaults (modelOf (now (image .entry))) i (block (modelOf (now (image .entry))) i))) (now (report .exit)) r × Adds (mostBlockFaults * mostBlocks) counted r ⌝ }
 {
     let section = layout.blocks;
     let mut c = counted;
@@ -173,8 +173,8 @@ fn id_and_block(
     report: &mut [u8],
     counted: Counted,
 ) -> Counted
-    requires { ⌜ total counted ≤ 900000 ⌝ }
-    ensures { λ r. ⌜ Put (now (report .entry)) counted (idAndBlock i id block n subject) (now (report .exit)) r × (total r ≤ total counted + 2) ⌝ }
+    requires { ⌜ Countable mostConnectorFaults counted ⌝ }
+    ensures { λ r. ⌜ Put (now (report .entry)) counted (idAndBlock i id block n subject) (now (report .exit)) r × Adds mostConnectorFaults counted r ⌝ }
 {
     let own = error(DiagCode::MalformedDocument, 1, 4, subject, i);
     let before = put_if(report, counted, id != i, own);
@@ -189,8 +189,8 @@ pub fn connector_faults(
     report: &mut [u8],
     counted: Counted,
 ) -> Counted
-    requires { ⌜ Laid (now image) layout × (i .0 < layout .connectors .count) × (total counted ≤ 800000) ⌝ }
-    ensures { λ r. ⌜ Put (now (report .entry)) counted (connectorFaults (modelOf (now (image .entry))) (i .0) (connector (modelOf (now (image .entry))) (i .0))) (now (report .exit)) r × (total r ≤ total counted + 2) ⌝ }
+    requires { ⌜ Laid (now image) layout × (i .0 < layout .connectors .count) × Countable mostConnectorFaults counted ⌝ }
+    ensures { λ r. ⌜ Put (now (report .entry)) counted (connectorFaults (modelOf (now (image .entry))) (i .0) (connector (modelOf (now (image .entry))) (i .0))) (now (report .exit)) r × Adds mostConnectorFaults counted r ⌝ }
 {
     let c = connector(image, layout, i);
     let id = c.id;
@@ -201,8 +201,8 @@ pub fn connector_faults(
 }
 
 fn all_connectors(image: &[u8], layout: Layout, report: &mut [u8], counted: Counted) -> Counted
-    requires { ⌜ Laid (now image) layout × (total counted ≤ 500000) ⌝ }
-    ensures { λ r. ⌜ Put (now (report .entry)) counted (each (layout .connectors .count) (λ i. connectorFaults (modelOf (now (image .entry))) i (connector (modelOf (now (image .entry))) i))) (now (report .exit)) r × (total r ≤ total counted + 2 * mostConnectors) ⌝ }
+    requires { ⌜ Laid (now image) layout × Countable (mostConnectorFaults * mostConnectors) counted ⌝ }
+    ensures { λ r. ⌜ Put (now (report .entry)) counted (each (layout .connectors .count) (λ i. connectorFaults (modelOf (now (image .entry))) i (connector (modelOf (now (image .entry))) i))) (now (report .exit)) r × Adds (mostConnectorFaults * mostConnectors) counted r ⌝ }
 {
     let section = layout.connectors;
     let mut c = counted;
@@ -223,8 +223,8 @@ pub fn check_arena_ids(
     report: &mut [u8],
     counted: Counted,
 ) -> Counted
-    requires { ⌜ Laid (now image) layout × Tabled blockTag (now image) (now blocks) × (total counted ≤ 100000) ⌝ }
-    ensures { λ r. ⌜ Put (now (report .entry)) counted (rule1 (modelOf (now (image .entry)))) (now (report .exit)) r × (total r ≤ total counted + 513 * mostBlocks + 2 * mostConnectors) ⌝ }
+    requires { ⌜ Laid (now image) layout × Tabled blockTag (now image) (now blocks) × Countable mostArenaFaults counted ⌝ }
+    ensures { λ r. ⌜ Put (now (report .entry)) counted (rule1 (modelOf (now (image .entry)))) (now (report .exit)) r × Adds mostArenaFaults counted r ⌝ }
 {
     let c = all_blocks(image, layout, blocks, report, counted);
     all_connectors(image, layout, report, c)

@@ -27,7 +27,7 @@ use Rattle.image_records.specs.Records.{connectorRead}
 use Rattle.image_records.proofs.Laws.{connectors-counted}
 use Rattle.structural_degrees.specs.Columns.{Degrees}
 use Rattle.structural_wiring.proofs.Reading.{id-is, dir-is, subject-is}
-use Rattle.structural_assignment.specs.PerRecord.{entryOf, undriven, degreeFaults}
+use Rattle.structural_assignment.specs.PerRecord.{entryOf, undriven, degreeFaults, mostAssignmentFaults}
 
 -- ---- a degree by an id
 
@@ -97,7 +97,7 @@ module _ (m : Model) (i : ℕ) {r : Connector} (e : r ≡ connectorRead (connect
 
 -- all of them
 pub rule3-put : {s : List ℕ} {l : Layout} {i : ℕ} {b₀ b : List ℕ} {c₀ c : Counted} → Laid s l
-    → Emits (λ i. assignmentFaults (modelOf s) i (connector (modelOf s) i)) 2 (l .connectors .count) b₀ c₀ b c i → l .connectors .count ≤ i
+    → Emits (λ i. assignmentFaults (modelOf s) i (connector (modelOf s) i)) mostAssignmentFaults (l .connectors .count) b₀ c₀ b c i → l .connectors .count ≤ i
     → Put b₀ c₀ (rule3 (modelOf s)) b c
 unfolding rule3
 rule3-put h v e = rw (← (connectors-counted h)) (emits-put v e)

@@ -23,3 +23,7 @@ unfoldable pub degreeFaults : ℕ → Subject → ℕ → Bool → List Diagnost
 degreeFaults i subject degree external =
     only (undriven degree external) (error SingleAssignment 3 1 subject i)
     ++ only (ltb 1 degree) (error SingleAssignment 3 2 subject degree)
+
+-- the most that is reported of an input
+abbrev pub mostAssignmentFaults : ℕ
+mostAssignmentFaults = 2

@@ -15,22 +15,22 @@ ghost use Prim.Native.Nat.{_+_, _*_, _<_, _≤_};
 ghost use lib.ListN.{length};
 ghost use Rattle.oce_model.specs.Format.{mostConnectors};
 ghost use Rattle.oce_model.specs.Model.{modelOf, connector};
-ghost use Rattle.oce_diag.specs.Putting.{Put, total};
+ghost use Rattle.oce_diag.specs.Putting.{Put, Countable, Adds};
 ghost use Rattle.structural.specs.Degrees.{degree, external};
 ghost use Rattle.structural.specs.Structural.{assignmentFaults, rule3};
 ghost use Rattle.image_accept.specs.Layout.{Laid};
 ghost use Rattle.structural_degrees.specs.Columns.{Degrees};
 ghost use Rattle.structural_externals.specs.Columns.{Listed};
-ghost use Rattle.structural_assignment.specs.PerRecord.{entryOf, undriven, degreeFaults};
+ghost use Rattle.structural_assignment.specs.PerRecord.{entryOf, undriven, degreeFaults, mostAssignmentFaults};
 
 // The in-degree under an id: 0 where that is not the number of one of n connectors.
-fn degree_of(ds: &[u32], n: usize, id: ConnectorId) -> u32
-    requires { ⌜ n ≤ length (now ds) ⌝ }
-    ensures { λ r. ⌜ r ≡ entryOf (now (ds .entry)) n (id .0) ⌝ }
+fn degree_of(degrees: &[u32], n: usize, id: ConnectorId) -> u32
+    requires { ⌜ n ≤ length (now degrees) ⌝ }
+    ensures { λ r. ⌜ r ≡ entryOf (now (degrees .entry)) n (id .0) ⌝ }
 {
     let at = id.0 as usize;
     if at < n {
-        return ds[at];
+        return degrees[at];
     }
     0
 }
@@ -54,8 +54,8 @@ fn none_or_many(
     report: &mut [u8],
     counted: Counted,
 ) -> Counted
-    requires { ⌜ total counted ≤ 900000 ⌝ }
-    ensures { λ r. ⌜ Put (now (report .entry)) counted (degreeFaults i subject d outside) (now (report .exit)) r × (total r ≤ total counted + 2) ⌝ }
+    requires { ⌜ Countable mostAssignmentFaults counted ⌝ }
+    ensures { λ r. ⌜ Put (now (report .entry)) counted (degreeFaults i subject d outside) (now (report .exit)) r × Adds mostAssignmentFaults counted r ⌝ }
 {
     let none = error(DiagCode::SingleAssignment, 3, 1, subject, i);
     let before = put_if(report, counted, is_undriven(d, outside), none);
@@ -67,34 +67,34 @@ fn none_or_many(
 fn degree_faults(
     image: &[u8],
     layout: Layout,
-    ds: &[u32],
-    xs: &[u32],
+    degrees: &[u32],
+    externals: &[u32],
     i: ConnectorId,
     id: ConnectorId,
     subject: Subject,
     report: &mut [u8],
     counted: Counted,
 ) -> Counted
-    requires { ⌜ Laid (now image) layout × Degrees (modelOf (now image)) (now ds) × Listed (modelOf (now image)) (now xs) × (total counted ≤ 850000) ⌝ }
-    ensures { λ r. ⌜ Put (now (report .entry)) counted (degreeFaults (i .0) subject (degree (modelOf (now (image .entry))) (id .0)) (external (modelOf (now (image .entry))) (id .0))) (now (report .exit)) r × (total r ≤ total counted + 2) ⌝ }
+    requires { ⌜ Laid (now image) layout × Degrees (modelOf (now image)) (now degrees) × Listed (modelOf (now image)) (now externals) × Countable mostAssignmentFaults counted ⌝ }
+    ensures { λ r. ⌜ Put (now (report .entry)) counted (degreeFaults (i .0) subject (degree (modelOf (now (image .entry))) (id .0)) (external (modelOf (now (image .entry))) (id .0))) (now (report .exit)) r × Adds mostAssignmentFaults counted r ⌝ }
 {
     let connectors = layout.connectors;
-    let d = degree_of(ds, connectors.count, id);
-    let outside = is_external(image, layout, xs, id.0 as usize);
+    let d = degree_of(degrees, connectors.count, id);
+    let outside = is_external(image, layout, externals, id.0 as usize);
     none_or_many(i.0, subject, d, outside, report, counted)
 }
 
 pub fn assignment_faults(
     image: &[u8],
     layout: Layout,
-    ds: &[u32],
-    xs: &[u32],
+    degrees: &[u32],
+    externals: &[u32],
     i: ConnectorId,
     report: &mut [u8],
     counted: Counted,
 ) -> Counted
-    requires { ⌜ Laid (now image) layout × Degrees (modelOf (now image)) (now ds) × Listed (modelOf (now image)) (now xs) × (i .0 < layout .connectors .count) × (total counted ≤ 800000) ⌝ }
-    ensures { λ r. ⌜ Put (now (report .entry)) counted (assignmentFaults (modelOf (now (image .entry))) (i .0) (connector (modelOf (now (image .entry))) (i .0))) (now (report .exit)) r × (total r ≤ total counted + 2) ⌝ }
+    requires { ⌜ Laid (now image) layout × Degrees (modelOf (now image)) (now degrees) × Listed (modelOf (now image)) (now externals) × (i .0 < layout .connectors .count) × Countable mostAssignmentFaults counted ⌝ }
+    ensures { λ r. ⌜ Put (now (report .entry)) counted (assignmentFaults (modelOf (now (image .entry))) (i .0) (connector (modelOf (now (image .entry))) (i .0))) (now (report .exit)) r × Adds mostAssignmentFaults counted r ⌝ }
 {
     let c = connector(image, layout, i);
     if c.dir != DIR_IN {
@@ -102,26 +102,26 @@ pub fn assignment_faults(
     }
     let id = c.id;
     let subject = subject_of(c.iri, id.0);
-    degree_faults(image, layout, ds, xs, i, id, subject, report, counted)
+    degree_faults(image, layout, degrees, externals, i, id, subject, report, counted)
 }
 
-// ds and xs are as `in_degrees` and `list_externals` leave them.
+// degrees and externals are as `in_degrees` and `list_externals` leave them.
 pub fn check_single_assignment(
     image: &[u8],
     layout: Layout,
-    ds: &[u32],
-    xs: &[u32],
+    degrees: &[u32],
+    externals: &[u32],
     report: &mut [u8],
     counted: Counted,
 ) -> Counted
-    requires { ⌜ Laid (now image) layout × Degrees (modelOf (now image)) (now ds) × Listed (modelOf (now image)) (now xs) × (total counted ≤ 500000) ⌝ }
-    ensures { λ r. ⌜ Put (now (report .entry)) counted (rule3 (modelOf (now (image .entry)))) (now (report .exit)) r × (total r ≤ total counted + 2 * mostConnectors) ⌝ }
+    requires { ⌜ Laid (now image) layout × Degrees (modelOf (now image)) (now degrees) × Listed (modelOf (now image)) (now externals) × Countable (mostAssignmentFaults * mostConnectors) counted ⌝ }
+    ensures { λ r. ⌜ Put (now (report .entry)) counted (rule3 (modelOf (now (image .entry)))) (now (report .exit)) r × Adds (mostAssignmentFaults * mostConnectors) counted r ⌝ }
 {
     let connectors = layout.connectors;
     let mut c = counted;
     let mut i = 0;
     while i < connectors.count {
-        c = assignment_faults(image, layout, ds, xs, ConnectorId(i as u32), report, c);
+        c = assignment_faults(image, layout, degrees, externals, ConnectorId(i as u32), report, c);
         i += 1;
     }
     c

@@ -24,13 +24,13 @@ use Rattle.oce_diag.specs.declared.Diagnostic.{Diagnostic}
 use Rattle.oce_diag.specs.declared.Subject.{Subject}
 use Rattle.oce_diag.specs.declared.Subject.the-variants.{Nothing, Text}
 use Rattle.oce_diag.specs.declared.DiagCode.the-variants.{MalformedDocument, DirectionMismatch, TypeMismatch}
-use Rattle.oce_diag.proofs.Putting.{put-then, emits-put, emits-few}
+use Rattle.oce_diag.proofs.Putting.{put-then, emits-put}
 use Rattle.structural.specs.Structural.{outputFaults, rule2, inRange, sameType, connectionFaults, rule4}
 use Rattle.image_accept.specs.Layout.{Laid}
 use Rattle.image_accept.specs.declared.Layout.{Layout}
 use Rattle.image_records.specs.Records.{connectorRead, outputRead}
 use Rattle.image_records.proofs.Laws.{connectors-counted, connections-counted, outputs-counted, connections-few, boundary-outputs-few}
-use Rattle.structural_wiring.specs.PerRecord.{sourceFaults, within, endFaults}
+use Rattle.structural_wiring.specs.PerRecord.{sourceFaults, within, endFaults, mostOutputFaults, mostConnectionFaults}
 use Rattle.structural_wiring.proofs.Reading.{dir-is, kind-is, class-is, subject-is}
 
 -- ---- rule 2
@@ -83,17 +83,10 @@ module _ {s : List ℕ} {l : Layout} (h : Laid s l) (i : ℕ) {o : BoundaryOutpu
 
 module _ {s : List ℕ} {l : Layout} (h : Laid s l) {b₀ b : List ℕ} {c₀ c : Counted} {i : ℕ} where
   -- all of them
-  pub rule2-put : Emits (λ i. outputFaults (modelOf s) i (boundaryOutput (modelOf s) i)) 2 (l .outputs .count) b₀ c₀ b c i → l .outputs .count ≤ i
+  pub rule2-put : Emits (λ i. outputFaults (modelOf s) i (boundaryOutput (modelOf s) i)) mostOutputFaults (l .outputs .count) b₀ c₀ b c i → l .outputs .count ≤ i
       → Put b₀ c₀ (rule2 (modelOf s)) b c
   unfolding rule2
   rule2-put v e = rw (← (outputs-counted h)) (emits-put v e)
-
-  module _ {f : ℕ → List Diagnostic} (v : Emits f 2 (l .outputs .count) b₀ c₀ b c i) where
-    pub outputs-bound : l .outputs .count ≤ i → total c ≤ total c₀ + 2 * mostBoundaryOutputs
-    outputs-bound e = let n = boundary-outputs-few h in let q = emits-few v e in omega arith
-
-    pub outputs-room : total c₀ ≤ 500000 → total c ≤ 800000
-    outputs-room e = let n = boundary-outputs-few h in let q = v .few in let w = v .within in omega arith
 
 pub output-number : {s : List ℕ} {l : Layout} {i : ℕ} → Laid s l → i < l .outputs .count → Fits w32 i
 output-number h e = record { fits = (let n = boundary-outputs-few h in omega arith) }
@@ -169,17 +162,10 @@ module _ (a b c d : ℕ) where
 
 module _ {s : List ℕ} {l : Layout} (h : Laid s l) {b₀ b : List ℕ} {c₀ c : Counted} {i : ℕ} where
   -- all of them
-  pub rule4-put : Emits (λ i. connectionFaults (modelOf s) i (connection (modelOf s) i)) 3 (l .connections .count) b₀ c₀ b c i → l .connections .count ≤ i
+  pub rule4-put : Emits (λ i. connectionFaults (modelOf s) i (connection (modelOf s) i)) mostConnectionFaults (l .connections .count) b₀ c₀ b c i → l .connections .count ≤ i
       → Put b₀ c₀ (rule4 (modelOf s)) b c
   unfolding rule4
   rule4-put v e = rw (← (connections-counted h)) (emits-put v e)
-
-  module _ {f : ℕ → List Diagnostic} (v : Emits f 3 (l .connections .count) b₀ c₀ b c i) where
-    pub connections-bound : l .connections .count ≤ i → total c ≤ total c₀ + 3 * mostConnections
-    connections-bound e = let n = connections-few h in let q = emits-few v e in omega arith
-
-    pub connections-room : total c₀ ≤ 500000 → total c ≤ 800000
-    connections-room e = let n = connections-few h in let q = v .few in let w = v .within in omega arith
 
 pub connection-number : {s : List ℕ} {l : Layout} {i : ℕ} → Laid s l → i < l .connections .count → Fits w32 i
 connection-number h e = record { fits = (let n = connections-few h in omega arith) }

@@ -27,3 +27,10 @@ endFaults k from start to end same =
     only (eqb start dirIn) (error DirectionMismatch 4 2 from k)
     ++ only (not (eqb end dirIn)) (error DirectionMismatch 4 3 to k)
     ++ only (not same) (error TypeMismatch 4 4 to k)
+
+-- the most that rules 2 and 4 report of a boundary output and of a connection
+abbrev pub mostOutputFaults : ℕ
+mostOutputFaults = 2
+
+abbrev pub mostConnectionFaults : ℕ
+mostConnectionFaults = 3

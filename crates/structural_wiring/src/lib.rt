@@ -24,10 +24,10 @@ ghost use lib.Dec.{eqb};
 ghost use Rattle.oce_model.specs.Format.{mostBoundaryOutputs, mostConnections};
 ghost use Rattle.oce_model.specs.Model.{modelOf, connector, connection, boundaryOutput};
 ghost use Rattle.oce_diag.specs.Diagnostics.{subjectOf};
-ghost use Rattle.oce_diag.specs.Putting.{Put, total};
+ghost use Rattle.oce_diag.specs.Putting.{Put, Countable, Adds};
 ghost use Rattle.structural.specs.Structural.{sameType, outputFaults, rule2, connectionFaults, rule4};
 ghost use Rattle.image_accept.specs.Layout.{Laid};
-ghost use Rattle.structural_wiring.specs.PerRecord.{sourceFaults, within, endFaults};
+ghost use Rattle.structural_wiring.specs.PerRecord.{sourceFaults, within, endFaults, mostOutputFaults, mostConnectionFaults};
 
 // ---- rule 2
 
@@ -41,8 +41,8 @@ fn direction_and_kind(
     report: &mut [u8],
     counted: Counted,
 ) -> Counted
-    requires { ⌜ total counted ≤ 900000 ⌝ }
-    ensures { λ r. ⌜ Put (now (report .entry)) counted (sourceFaults i subject own dir kind) (now (report .exit)) r × (total r ≤ total counted + 2) ⌝ }
+    requires { ⌜ Countable mostOutputFaults counted ⌝ }
+    ensures { λ r. ⌜ Put (now (report .entry)) counted (sourceFaults i subject own dir kind) (now (report .exit)) r × Adds mostOutputFaults counted r ⌝ }
 {
     let inwards = error(DiagCode::DirectionMismatch, 2, 2, subject, i);
     let before = put_if(report, counted, dir == DIR_IN, inwards);
@@ -60,8 +60,8 @@ fn source_faults(
     report: &mut [u8],
     counted: Counted,
 ) -> Counted
-    requires { ⌜ Laid (now image) layout × (i < layout .outputs .count) × (source .0 < layout .connectors .count) × (total counted ≤ 850000) ⌝ }
-    ensures { λ r. ⌜ Put (now (report .entry)) counted (sourceFaults i subject (boundaryOutput (modelOf (now (image .entry))) i .attrs .kind) (connector (modelOf (now (image .entry))) (source .0) .dir) (connector (modelOf (now (image .entry))) (source .0) .valueType)) (now (report .exit)) r × (total r ≤ total counted + 2) ⌝ }
+    requires { ⌜ Laid (now image) layout × (i < layout .outputs .count) × (source .0 < layout .connectors .count) × Countable mostOutputFaults counted ⌝ }
+    ensures { λ r. ⌜ Put (now (report .entry)) counted (sourceFaults i subject (boundaryOutput (modelOf (now (image .entry))) i .attrs .kind) (connector (modelOf (now (image .entry))) (source .0) .dir) (connector (modelOf (now (image .entry))) (source .0) .valueType)) (now (report .exit)) r × Adds mostOutputFaults counted r ⌝ }
 {
     let at = boundary_output_attrs(image, layout, i);
     let own = attrs_kind(image, at);
@@ -76,8 +76,8 @@ pub fn output_faults(
     report: &mut [u8],
     counted: Counted,
 ) -> Counted
-    requires { ⌜ Laid (now image) layout × (i < layout .outputs .count) × (total counted ≤ 800000) ⌝ }
-    ensures { λ r. ⌜ Put (now (report .entry)) counted (outputFaults (modelOf (now (image .entry))) i (boundaryOutput (modelOf (now (image .entry))) i)) (now (report .exit)) r × (total r ≤ total counted + 2) ⌝ }
+    requires { ⌜ Laid (now image) layout × (i < layout .outputs .count) × Countable mostOutputFaults counted ⌝ }
+    ensures { λ r. ⌜ Put (now (report .entry)) counted (outputFaults (modelOf (now (image .entry))) i (boundaryOutput (modelOf (now (image .entry))) i)) (now (report .exit)) r × Adds mostOutputFaults counted r ⌝ }
 {
     let o = boundary_output(image, layout, i);
     let source = o.source;
@@ -96,8 +96,8 @@ pub fn check_boundary_outputs(
     report: &mut [u8],
     counted: Counted,
 ) -> Counted
-    requires { ⌜ Laid (now image) layout × (total counted ≤ 500000) ⌝ }
-    ensures { λ r. ⌜ Put (now (report .entry)) counted (rule2 (modelOf (now (image .entry)))) (now (report .exit)) r × (total r ≤ total counted + 2 * mostBoundaryOutputs) ⌝ }
+    requires { ⌜ Laid (now image) layout × Countable (mostOutputFaults * mostBoundaryOutputs) counted ⌝ }
+    ensures { λ r. ⌜ Put (now (report .entry)) counted (rule2 (modelOf (now (image .entry)))) (now (report .exit)) r × Adds (mostOutputFaults * mostBoundaryOutputs) counted r ⌝ }
 {
     let outputs = layout.outputs;
     let mut c = counted;
@@ -142,8 +142,8 @@ fn directions_and_types(
     report: &mut [u8],
     counted: Counted,
 ) -> Counted
-    requires { ⌜ total counted ≤ 900000 ⌝ }
-    ensures { λ r. ⌜ Put (now (report .entry)) counted (endFaults k from start to end same) (now (report .exit)) r × (total r ≤ total counted + 3) ⌝ }
+    requires { ⌜ Countable mostConnectionFaults counted ⌝ }
+    ensures { λ r. ⌜ Put (now (report .entry)) counted (endFaults k from start to end same) (now (report .exit)) r × Adds mostConnectionFaults counted r ⌝ }
 {
     let inwards = error(DiagCode::DirectionMismatch, 4, 2, from, k);
     let first = put_if(report, counted, start == DIR_IN, inwards);
@@ -163,8 +163,8 @@ fn end_faults(
     report: &mut [u8],
     counted: Counted,
 ) -> Counted
-    requires { ⌜ Laid (now image) layout × (from .0 < layout .connectors .count) × (to .0 < layout .connectors .count) × (total counted ≤ 850000) ⌝ }
-    ensures { λ r. ⌜ Put (now (report .entry)) counted (endFaults k (subjectOf (connector (modelOf (now (image .entry))) (from .0))) (connector (modelOf (now (image .entry))) (from .0) .dir) (subjectOf (connector (modelOf (now (image .entry))) (to .0))) (connector (modelOf (now (image .entry))) (to .0) .dir) (sameType (connector (modelOf (now (image .entry))) (from .0)) (connector (modelOf (now (image .entry))) (to .0)))) (now (report .exit)) r × (total r ≤ total counted + 3) ⌝ }
+    requires { ⌜ Laid (now image) layout × (from .0 < layout .connectors .count) × (to .0 < layout .connectors .count) × Countable mostConnectionFaults counted ⌝ }
+    ensures { λ r. ⌜ Put (now (report .entry)) counted (endFaults k (subjectOf (connector (modelOf (now (image .entry))) (from .0))) (connector (modelOf (now (image .entry))) (from .0) .dir) (subjectOf (connector (modelOf (now (image .entry))) (to .0))) (connector (modelOf (now (image .entry))) (to .0) .dir) (sameType (connector (modelOf (now (image .entry))) (from .0)) (connector (modelOf (now (image .entry))) (to .0)))) (now (report .exit)) r × Adds mostConnectionFaults counted r ⌝ }
 {
     let a = connector(image, layout, from);
     let a_id = a.id;
@@ -189,8 +189,8 @@ pub fn connection_faults(
     report: &mut [u8],
     counted: Counted,
 ) -> Counted
-    requires { ⌜ Laid (now image) layout × (k < layout .connections .count) × (total counted ≤ 800000) ⌝ }
-    ensures { λ r. ⌜ Put (now (report .entry)) counted (connectionFaults (modelOf (now (image .entry))) k (connection (modelOf (now (image .entry))) k)) (now (report .exit)) r × (total r ≤ total counted + 3) ⌝ }
+    requires { ⌜ Laid (now image) layout × (k < layout .connections .count) × Countable mostConnectionFaults counted ⌝ }
+    ensures { λ r. ⌜ Put (now (report .entry)) counted (connectionFaults (modelOf (now (image .entry))) k (connection (modelOf (now (image .entry))) k)) (now (report .exit)) r × Adds mostConnectionFaults counted r ⌝ }
 {
     let c = connection(image, layout, k);
     let connectors = layout.connectors;
@@ -221,8 +221,8 @@ pub fn check_connections(
     report: &mut [u8],
     counted: Counted,
 ) -> Counted
-    requires { ⌜ Laid (now image) layout × (total counted ≤ 500000) ⌝ }
-    ensures { λ r. ⌜ Put (now (report .entry)) counted (rule4 (modelOf (now (image .entry)))) (now (report .exit)) r × (total r ≤ total counted + 3 * mostConnections) ⌝ }
+    requires { ⌜ Laid (now image) layout × Countable (mostConnectionFaults * mostConnections) counted ⌝ }
+    ensures { λ r. ⌜ Put (now (report .entry)) counted (rule4 (modelOf (now (image .entry)))) (now (report .exit)) r × Adds (mostConnectionFaults * mostConnections) counted r ⌝ }
 {
     let connections = layout.connections;
     let mut c = counted;

@@ -16,8 +16,8 @@ outputs-crossed-requires c κs =
     let pre = c .before .before .before .before .before .before .before .before .before .before .before .before .before .pre in
     (pre .0, omega (arith, pre .3, c .before .before .before .before .before .before .before .connectors-crossed .ensures .1, c .before .before .before .inputs-crossed .ensures .1, connectors-few (pre .0), boundary-inputs-few (pre .0)))
 
-combined-domains-requires : tie.Need-combined-domains-requires
-combined-domains-requires c κs =
+check-combined-input-domains-requires : tie.Need-check-combined-input-domains-requires
+check-combined-input-domains-requires c κs =
     let pre = c .before .before .before .before .before .before .before .before .before .before .before .before .before .before .before .before .before .pre in
     let a = c .before .before .before .before .before .before .before .before .before .before .before .connectors-crossed .ensures .1 in
     let b = c .before .before .before .before .before .before .before .inputs-crossed .ensures .1 in
@@ -29,7 +29,7 @@ returns c =
     let p = c .before .before .before .before .before .before .before .before .before .before .before .before .before .before .connectors-crossed .ensures in
     let q = c .before .before .before .before .before .before .before .before .before .before .inputs-crossed .ensures in
     let r = c .before .before .before .before .before .before .outputs-crossed .ensures in
-    let u = c .before .before .combined-domains .ensures in
+    let u = c .before .before .check-combined-input-domains .ensures in
     (rule5-put (pre .0) (p .0) (q .0) (r .0) (u .0), omega (arith, p .1, q .1, r .1, u .1, connectors-few (pre .0), boundary-inputs-few (pre .0), boundary-outputs-few (pre .0)))
 
 pub check-crossed-bounds-spec : {M : Type 1} → statement M
@@ -39,6 +39,6 @@ check-crossed-bounds-spec =
     (λ c κs. search needs)
     inputs-crossed-requires
     outputs-crossed-requires
-    combined-domains-requires
+    check-combined-input-domains-requires
     (λ c. search needs)
     returns)

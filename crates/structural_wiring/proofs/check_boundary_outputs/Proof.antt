@@ -2,15 +2,18 @@
 use borrow.Author.Needs.{needs}
 use Prim.Native.Nat.{_-_}
 use Rattle.oce_diag.specs.Putting.{Emits}
-use Rattle.oce_diag.proofs.Putting.{emits-start, emits-turn, emits-length}
+use Rattle.oce_diag.proofs.Putting.{emits-start, emits-turn, emits-adds, emits-countable, emits-length}
 use Rattle.structural.specs.Structural.{outputFaults}
 use Rattle.oce_model.specs.Model.{modelOf, boundaryOutput}
-use Rattle.structural_wiring.proofs.Laws.{rule2-put, outputs-bound, outputs-room}
+use Rattle.oce_model.specs.Format.{mostBoundaryOutputs}
+use Rattle.image_records.proofs.Laws.{boundary-outputs-few}
+use Rattle.structural_wiring.specs.PerRecord.{mostOutputFaults}
+use Rattle.structural_wiring.proofs.Laws.{rule2-put}
 use Rattle.structural_wiring.proofs.check_boundary_outputs.Statement.{statement}
 use Rattle.structural_wiring.proofs.check_boundary_outputs.Tie as tie
 
 abbrev Inv-loop : tie.InvT-loop
-Inv-loop image layout report₀ outputs c₀ i₀ report c i = Emits (λ i. outputFaults (modelOf image) i (boundaryOutput (modelOf image) i)) 2 (layout .outputs .count) report₀ c₀ report c i
+Inv-loop image layout report₀ outputs c₀ i₀ report c i = Emits (λ i. outputFaults (modelOf image) i (boundaryOutput (modelOf image) i)) mostOutputFaults (layout .outputs .count) report₀ c₀ report c i
 
 abbrev μ-loop : tie.MeasureT-loop
 μ-loop image layout report₀ outputs c₀ i₀ report c i = layout .outputs .count - i
@@ -22,9 +25,9 @@ check-boundary-outputs-spec =
     Inv-loop
     μ-loop
     (λ c. search (emits-start, needs))
-    (λ c κs. search (outputs-room, needs))
+    (λ c κs. search (emits-countable mostBoundaryOutputs, boundary-outputs-few, needs))
     (λ c. search needs)
     (λ c. search needs)
     (λ c. search (emits-turn, needs))
     (λ c. search (emits-length, needs))
-    (λ c. search (rule2-put, outputs-bound, needs)))
+    (λ c. search (rule2-put, emits-adds mostBoundaryOutputs, boundary-outputs-few, needs)))
