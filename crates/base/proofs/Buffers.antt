@@ -73,8 +73,3 @@ pub startsWith-patch : (bs b : List ℕ) → startsWith bs b ≡ patch b 0 bs
 unfolding startsWith patch
 startsWith-patch bs b = rw zero-add
 
--- more bytes behind the first
-pub startsWith-more : (xs ys b : List ℕ) → length xs ≤ length b → patch (startsWith xs b) (length xs) ys ≡ startsWith (xs ++ ys) b
-startsWith-more xs ys b h =
-    let e : patch (patch b 0 xs) (0 + length xs) ys ≡ patch b 0 (xs ++ ys) = patch-patch b 0 xs ys (omega arith) in
-    rw (startsWith-patch xs b, startsWith-patch (xs ++ ys) b) (rw zero-add at e)

@@ -95,11 +95,6 @@ module _ {A : Type 0} where
   unfolding steps
   steps-next i f a = rw add-one
 
-  pub steps-same : (n : ℕ) (f g : ℕ → A → A) (a : A) → ((i : ℕ) → i < n → (x : A) → f i x ≡ g i x) → steps n f a ≡ steps n g a
-  unfolding steps
-  steps-same zero f g a h = refl
-  steps-same (suc n) f g a h = rw (steps-same n f g a (λ i l. h i (omega arith))) (h n (omega arith) (steps n g a))
-
 -- ---- tests over a list
 
 module _ {A : Type 0} (p : A → Bool) where
@@ -122,36 +117,12 @@ module _ {A : Type 0} (p : A → Bool) where
       arm true = refl
       arm false = refl
 
-  pub length-keep : (xs : List A) → length (keep p xs) ≤ length xs
-  unfolding keep
-  length-keep [] = omega arith
-  length-keep (x ∷ xs) = arm (p x) (length-keep xs)
-    where
-      arm : (b : Bool) → length (keep p xs) ≤ length xs → length (cond b (x ∷ keep p xs) (keep p xs)) ≤ suc (length xs)
-      arm true h = omega arith
-      arm false h = omega arith
-
-  pub all-keep : (xs : List A) → all p (keep p xs) ≡ true
-  unfolding keep all
-  all-keep [] = refl
-  all-keep (x ∷ xs) = arm (p x) refl (all-keep xs)
-    where
-      arm : (b : Bool) → p x ≡ b → all p (keep p xs) ≡ true → all p (cond b (x ∷ keep p xs) (keep p xs)) ≡ true
-      arm true e h = rw (e, h)
-      arm false e h = h
-
   -- where all pass, each does
   pub all-getD : (xs : List A) (i : ℕ) (d : A) → all p xs ≡ true → i < length xs → p (getD xs i d) ≡ true
   unfolding all
   all-getD [] i d h l = absurd (omega arith)
   all-getD (x ∷ xs) zero d h l = and-parts (p x) (all p xs) h .0
   all-getD (x ∷ xs) (suc i) d h l = all-getD xs i d (and-parts (p x) (all p xs) h .1) (omega arith)
-
-  -- where each passes, all do
-  pub getD-all : (xs : List A) (d : A) → ((i : ℕ) → i < length xs → p (getD xs i d) ≡ true) → all p xs ≡ true
-  unfolding all
-  getD-all [] d h = refl
-  getD-all (x ∷ xs) d h = rw (h 0 (omega arith)) (getD-all xs d (λ i l. h (suc i) (omega arith)))
 
   -- where none passes, each fails
   pub any-getD : (xs : List A) (i : ℕ) (d : A) → any p xs ≡ false → i < length xs → p (getD xs i d) ≡ false
@@ -167,10 +138,6 @@ module _ {A : Type 0} (p : A → Bool) where
   getD-any (x ∷ xs) d h = rw (h 0 (omega arith)) (getD-any xs d (λ i l. h (suc i) (omega arith)))
 
 -- ---- tests over the indices below n
-
-pub tally-next : (k : ℕ) (f : ℕ → Bool) → tally (k + 1) f ≡ tally k f + cond (f k) 1 0
-unfolding tally
-tally-next k f = rw add-one
 
 pub tally-yes : (k : ℕ) (f : ℕ → Bool) → f k ≡ true → tally (k + 1) f ≡ tally k f + 1
 unfolding tally
@@ -205,11 +172,6 @@ pub below-next : (i : ℕ) (f : ℕ → Bool) → below (i + 1) f ≡ (below i f
 unfolding below
 below-next i f = rw add-one
 
-pub below-same : (n : ℕ) (f g : ℕ → Bool) → ((i : ℕ) → i < n → f i ≡ g i) → below n f ≡ below n g
-unfolding below
-below-same zero f g h = refl
-below-same (suc n) f g h = rw (below-same n f g (λ i l. h i (omega arith)), h n (omega arith))
-
 -- where the test passes at no index below n, it fails at each
 pub below-each : (n : ℕ) (f : ℕ → Bool) (i : ℕ) → below n f ≡ false → i < n → f i ≡ false
 unfolding below
@@ -219,12 +181,6 @@ below-each (suc n) f i h l = arm (ℕ-discrete i n) (below-each n f i (or-parts 
     arm : Dec (i ≡ n) → (i < n → f i ≡ false) → f i ≡ false
     arm (yes e) ih = rw e (or-parts (below n f) (f n) h .1)
     arm (no e) ih = ih (omega arith)
-
--- where the test fails at each index below n, it passes at none
-pub below-none : (n : ℕ) (f : ℕ → Bool) → ((i : ℕ) → i < n → f i ≡ false) → below n f ≡ false
-unfolding below
-below-none zero f h = refl
-below-none (suc n) f h = rw (below-none n f (λ i l. h i (omega arith)), h n (omega arith))
 
 -- where the test passes at an index below n, it passes below n
 pub below-some : (n : ℕ) (f : ℕ → Bool) (i : ℕ) → i < n → f i ≡ true → below n f ≡ true
@@ -251,10 +207,3 @@ same-sound (x ∷ xs) (y ∷ ys) h =
     let f : xs ≡ ys = same-sound xs ys (and-parts (eqb x y) (same xs ys) h .1) in
     rw (e, f)
 
-pub same-symmetric : (xs ys : List ℕ) → same xs ys ≡ same ys xs
-same-symmetric xs ys = arm (same xs ys) (same ys xs) refl refl
-  where
-    arm : (a b : Bool) → same xs ys ≡ a → same ys xs ≡ b → a ≡ b
-    arm true b e f = sym (same-refl xs) ∙ ap (λ t. same t xs) (same-sound xs ys e) ∙ f
-    arm false true e f = sym e ∙ ap (λ t. same xs t) (same-sound ys xs f) ∙ same-refl xs
-    arm false false e f = refl

@@ -58,14 +58,6 @@ filled-rewritten s acc = rewritten s acc (finalSlots (modelOf s))
 pub filled-length : (s : List ℕ) → refusal s ≡ none → length (filledOf s) ≡ length s
 filled-length s ok = filled-rewritten s (accepted s ok) .same
 
--- its fields are the image's: tags, lengths and offsets
-pub filled-fields : (s : List ℕ) → refusal s ≡ none → fields (filledOf s) ≡ fields s
-filled-fields s ok = fields-same s (filledOf s) (finalSlots (modelOf s)) (accepted s ok) (filled-rewritten s (accepted s ok))
-
--- its model is the image's, apart from attributes of connectors and boundary outputs
-pub filled-same : (s : List ℕ) → refusal s ≡ none → Same (modelOf s) (modelOf (filledOf s))
-filled-same s ok = same-model s (filledOf s) (finalSlots (modelOf s)) (accepted s ok) (filled-rewritten s (accepted s ok))
-
 -- it is accepted again
 pub filled-accepted : (s : List ℕ) → Bytes s → refusal s ≡ none → refusal (filledOf s) ≡ none
 unfolding filledOf

@@ -36,18 +36,6 @@ le-same (suc w) s t a b h =
     right : (c i : ℕ) → c + 1 + i ≡ c + suc i
     right c i = omega arith
 
-pub le-drop : (w k : ℕ) (s : List ℕ) (at : ℕ) → le w (drop k s) at ≡ le w s (k + at)
-le-drop w k s at = le-same w (drop k s) s at (k + at) (λ i l. getD-drop k s (at + i) 0 ∙ ap (λ n. byte s n) (right i))
-  where
-    right : (i : ℕ) → k + (at + i) ≡ k + at + i
-    right i = omega arith
-
-pub le-take : (w n : ℕ) (s : List ℕ) (at : ℕ) → at + w ≤ n → le w (take n s) at ≡ le w s at
-le-take w n s at h = le-same w (take n s) s at at (λ i l. getD-take n s (at + i) 0 (omega arith))
-
-pub le-append-left : (w : ℕ) (xs ys : List ℕ) (at : ℕ) → at + w ≤ length xs → le w (xs ++ ys) at ≡ le w xs at
-le-append-left w xs ys at h = le-same w (xs ++ ys) xs at at (λ i l. List·getD-append xs ys 0 (at + i) (omega arith))
-
 pub le-append-right : (w : ℕ) (xs ys : List ℕ) (at : ℕ) → le w (xs ++ ys) (length xs + at) ≡ le w ys at
 le-append-right w xs ys at = le-same w (xs ++ ys) ys (length xs + at) at (λ i l. ap (λ n. byte (xs ++ ys) n) (right i) ∙ getD-append-add xs ys (at + i) 0)
   where
@@ -72,12 +60,6 @@ pub leBytes-length : (w n : ℕ) → length (leBytes w n) ≡ w
 unfolding leBytes
 leBytes-length zero n = refl
 leBytes-length (suc w) n = ap suc (leBytes-length w (n / 256))
-
-pub leBytes-byte : (w n i : ℕ) → byte (leBytes w n) i < 256
-unfolding leBytes
-leBytes-byte zero n i = omega arith
-leBytes-byte (suc w) n zero = mod-lt n (omega arith)
-leBytes-byte (suc w) n (suc i) = leBytes-byte w (n / 256) i
 
 -- v + w bytes are the low v bytes and w more
 pub leBytes-add : (v w n : ℕ) → leBytes (v + w) n ≡ leBytes v n ++ leBytes w (n / 256 ^ v)
@@ -129,12 +111,6 @@ module _ (s : List ℕ) (at : ℕ) (bs : List ℕ) (fits : at + length bs ≤ le
     where
       right : (i : ℕ) → at + o + i ≡ at + (o + i)
       right i = omega arith
-
-  pub le-patch-before : (w x : ℕ) → x + w ≤ at → le w (patch s at bs) x ≡ le w s x
-  le-patch-before w x h = le-same w (patch s at bs) s x x (λ i l. patch-before s at bs fits (x + i) (omega arith))
-
-  pub le-patch-after : (w x : ℕ) → at + length bs ≤ x → le w (patch s at bs) x ≡ le w s x
-  le-patch-after w x h = le-same w (patch s at bs) s x x (λ i l. patch-after s at bs fits (x + i) (omega arith))
 
 -- a number that was written is read
 pub le-patch : (w : ℕ) (s : List ℕ) (at n : ℕ) → at + w ≤ length s → n < 256 ^ w → le w (patch s at (leBytes w n)) at ≡ n

@@ -51,13 +51,3 @@ integers = record {
   le-trans = λ x y z h k p q r. int-le-trans x y z h k;
 }
 
--- what is at most the other both ways is the same number
-pub leZ-both : (x y : ℤ) → leZ x y ≡ true → leZ y x ≡ true → x ≡ y
-leZ-both (pos a) (pos b) h k = ap pos (omega (arith, leb-true a b h, leb-true b a k))
-leZ-both (pos a) (negsuc b) h k = absurd (false≢true h)
-leZ-both (negsuc a) (pos b) h k = absurd (false≢true k)
-leZ-both (negsuc a) (negsuc b) h k = ap negsuc (omega (arith, leb-true b a h, leb-true a b k))
-
-pub signed64-fits : (b : ℕ) → b < 18446744073709551616 → SFits w64 (signed64 b)
-unfolding signed64
-signed64-fits b h = sfits-toZ (record { fits = h })

@@ -22,22 +22,3 @@ module _ {X : Type 0} {ok : X → Bool} {lt le : X → X → Bool} (o : Ordered 
       arm true h = inr (o .lt-le y x h)
       arm false h = inl (o .not-lt-le x y h p q)
 
-  pub lt-irrefl : (x : X) → ok x ≡ true → lt x x ≡ false
-  lt-irrefl x p = o .le-not-lt x x (o .le-refl x p) p p
-
-  pub lt-le-trans : (x y z : X) → lt x y ≡ true → le y z ≡ true → ok x ≡ true → ok y ≡ true → ok z ≡ true → lt x z ≡ true
-  lt-le-trans x y z h k p q r = arm (lt x z) refl
-    where
-      arm : (b : Bool) → lt x z ≡ b → b ≡ true
-      arm true e = refl
-      arm false e = absurd (clash x y h (o .le-trans y z x k (o .not-lt-le z x e r p) q r p) p q)
-
-  pub le-lt-trans : (x y z : X) → le x y ≡ true → lt y z ≡ true → ok x ≡ true → ok y ≡ true → ok z ≡ true → lt x z ≡ true
-  le-lt-trans x y z h k p q r = arm (lt x z) refl
-    where
-      arm : (b : Bool) → lt x z ≡ b → b ≡ true
-      arm true e = refl
-      arm false e = absurd (clash y z k (o .le-trans z x y (o .not-lt-le z x e r p) h r p q) q r)
-
-  pub lt-trans : (x y z : X) → lt x y ≡ true → lt y z ≡ true → ok x ≡ true → ok y ≡ true → ok z ≡ true → lt x z ≡ true
-  lt-trans x y z h k = lt-le-trans x y z h (o .lt-le y z k)

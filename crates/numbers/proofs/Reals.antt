@@ -149,7 +149,3 @@ reals = record {
   le-trans = real-le-trans;
 }
 
--- what is at most the other both ways is equal, as Rust's == tells it
-pub le-both : (x y : Float) → le x y ≡ true → le y x ≡ true → finite x ≡ true → finite y ≡ true → eq x y ≡ true
-unfolding le
-le-both x y h k p q = rw (real-le-not-lt y x k q p) at h

@@ -56,10 +56,3 @@ some-error (d ∷ ds) l = arm (isError d) l (some-error ds)
     arm true h ih = refl
     arm false h ih = ih h
 
--- and back
-pub errors-none : (ds : List Diagnostic) → hasError ds ≡ false → errors ds ≡ 0
-errors-none ds h = arm (decLt 0 (errors ds))
-  where
-    arm : Dec (0 < errors ds) → errors ds ≡ 0
-    arm (yes l) = absurd (true≢false (sym (some-error ds l) ∙ h))
-    arm (no l) = omega arith

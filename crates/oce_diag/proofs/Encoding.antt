@@ -19,8 +19,3 @@ reportBytes-length [] = refl
 reportBytes-length (d ∷ ds) =
     rw (length-append (diagnosticBytes d) (reportBytes ds), diagnosticBytes-length d, reportBytes-length ds) (omega (arith, mul-suc diagnosticSize (length ds)))
 
--- the bytes of two reports stand side by side
-pub reportBytes-append : (xs ys : List Diagnostic) → reportBytes (xs ++ ys) ≡ reportBytes xs ++ reportBytes ys
-unfolding reportBytes
-reportBytes-append [] ys = refl
-reportBytes-append (d ∷ ds) ys = rw (reportBytes-append ds ys) (sym (append-assoc (diagnosticBytes d) (reportBytes ds) (reportBytes ys)))

@@ -56,12 +56,6 @@ putAll-append (x ∷ xs) ys b n =
     let e : suc n + length xs ≡ n + suc (length xs) = omega arith in
     putAll-append xs ys (putOne b n x) (suc n) ∙ rw e
 
--- where there is room for none, nothing is written
-pub putAll-full : (ds : List Diagnostic) (b : List ℕ) (n : ℕ) → length b < diagnosticSize → putAll b n ds ≡ b
-unfolding putAll
-putAll-full [] b n h = refl
-putAll-full (d ∷ ds) b n h = rw (putOne-full b n d (omega arith)) (putAll-full ds b (suc n) h)
-
 -- where there is room for all, their bytes stand one after the other
 pub putAll-room : (ds : List Diagnostic) (b : List ℕ) (n : ℕ) → diagnosticSize * n + diagnosticSize * length ds ≤ length b
     → putAll b n ds ≡ patch b (diagnosticSize * n) (reportBytes ds)
@@ -106,12 +100,6 @@ module _ {b b′ : List ℕ} {c c′ : Counted} {t : Bool} where
   pub put-only : {x d : Diagnostic} → Put b c (x ∷ []) b′ c′ → x ≡ d → t ≡ true → Put b c (only t d) b′ c′
   put-only p f e = rw (e, ← f) p
 
-  pub put-true : {xs : List Diagnostic} (ys : List Diagnostic) → Put b c xs b′ c′ → t ≡ true → Put b c (cond t xs ys) b′ c′
-  put-true ys p e = rw e p
-
-  pub put-false : (xs : List Diagnostic) {ys : List Diagnostic} → Put b c ys b′ c′ → t ≡ false → Put b c (cond t xs ys) b′ c′
-  put-false xs p e = rw e p
-
 -- one that fails
 pub put-skip : {b : List ℕ} {c : Counted} {t : Bool} (d : Diagnostic) → t ≡ false → Put b c (only t d) b c
 put-skip d e = rw e put-none
@@ -125,10 +113,6 @@ put-as p e f = rw (← e, ← f) p
 module _ {b : List ℕ} {c : Counted} {ds : List Diagnostic} {b′ : List ℕ} {c′ : Counted} (p : Put b c ds b′ c′) where
   pub put-length : length b′ ≡ length b
   put-length = rw (p .bytes) (putAll-length ds b (total c))
-
-  -- an empty report stays empty
-  pub put-empty : length b ≡ 0 → b′ ≡ b
-  put-empty h = p .bytes ∙ putAll-full ds b (total c) (omega arith)
 
   -- a run with nothing counted before it counts its own, and leaves their bytes where there is room for all
   pub put-errors : total c ≡ 0 → c′ .errors ≡ errors ds

@@ -165,28 +165,6 @@ pub record Searching (p : Field → Bool) (s : List ℕ) (at prev : ℕ) : Type 
   pub same : first p rest ≡ first p (fields s)
 
 module _ (p : Field → Bool) (s : List ℕ) where
-  pub search-start : stop s ≡ length s → Searching p s 0 0
-  search-start h = record { rest = fields s; walk = walk-start s h; same = refl }
 
   module _ {at prev : ℕ} (w : Searching p s at prev) where
-    pub search-in : at < length s → at + 3 + le16 s (at + 1) ≤ length s
-    unfolding fieldEnd
-    search-in h = walk-step s at prev (w .rest) (w .walk) h .fits
 
-    pub search-found : at < length s → ((ord : ℕ) → p (fieldAt s at prev ord) ≡ true) → first p (fields s) ≡ some at
-    unfolding fieldAt
-    search-found h t =
-        let k = walk-step s at prev (w .rest) (w .walk) h in
-        sym (w .same) ∙ ap (first p) (k .is) ∙ first-here p _ (k .later) (t (k .ord))
-
-    pub search-step : at < length s → ((ord : ℕ) → p (fieldAt s at prev ord) ≡ false)
-        → {tag len : ℕ} → tag ≡ byte s at → len ≡ le16 s (at + 1) → Searching p s (at + 3 + len) tag
-    unfolding fieldEnd
-    search-step h t e f =
-        let k = walk-step s at prev (w .rest) (w .walk) h in
-        rw (e, f)
-        (record { rest = k .later; walk = k .walk; same = sym (first-later p _ (k .later) (t (k .ord))) ∙ sym (ap (first p) (k .is)) ∙ w .same })
-
-    pub search-end : length s ≤ at → first p (fields s) ≡ none
-    unfolding first
-    search-end h = sym (w .same) ∙ ap (first p) (walk-end s at prev (w .rest) (w .walk) h)

@@ -75,17 +75,6 @@ module _ {s ks ms ns : List ℕ} {c : Counted} (t : Tallied s ks ms ns c) where
       let b : take (k - 0) e ≡ reportBytes (reportOf s) = rw z (h .bytes (omega arith)) in
       q ∙ rw b (sym (startsWith-patch (reportBytes (reportOf s)) r))
 
-  -- nothing to report
-  pub report-empty : (r : List ℕ) → total c ≡ 0 → r ≡ startsWith (reportBytes (reportOf s)) r
-  unfolding startsWith reportBytes
-  report-empty r z =
-      let k : length (reportOf s) ≡ 0 = omega (arith, t .errors, t .warnings, errors-warnings (reportOf s)) in
-      rw (empty (reportOf s) k)
-    where
-      empty : (ds : List Diagnostic) → length ds ≡ 0 → ds ≡ []
-      empty [] e = refl
-      empty (d ∷ ds) e = absurd (omega arith)
-
   -- with an error the image stays as it is
   pub filled-kept : (f : List ℕ) {f′ : List ℕ} {l : Layout} → Laid s l → Bytes s → f′ ≡ startsWith s f → 0 < c .errors → f′ ≡ startsWith (filledOf s) f
   filled-kept f h bytes e n = e ∙ ap (λ x. startsWith x f) (sym (filled-undone s bytes (h .accepted) (some-error (reportOf s) (omega (arith, t .errors)))))

@@ -23,10 +23,6 @@ pub slot-view : (s : ℕ) (ks ms ns : List ℕ) (j : ℕ) → j < s → slot (vi
 unfolding slot view
 slot-view s ks ms ns j h = getD-tab s (attrsOf ks ms ns) j noAttrs h
 
-pub length-view : (s : ℕ) (ks ms ns : List ℕ) → length (view s ks ms ns) ≡ s
-unfolding view
-length-view s ks ms ns = length-tab s (attrsOf ks ms ns)
-
 pub kind-view : (s : ℕ) (ks ms ns : List ℕ) (j : ℕ) → j < s → slot (view s ks ms ns) j .kind ≡ getD ks j 0
 unfolding attrsOf
 kind-view s ks ms ns j h = rw (slot-view s ks ms ns j h)
