@@ -53,6 +53,7 @@ fn member_attrs(image: &[u8], layout: Layout, x: usize) -> usize
     boundary_input_attrs(image, layout, x - n)
 }
 
+// The range of member x's attributes.
 pub fn member_range(image: &[u8], layout: Layout, x: usize) -> Range
     requires { ⌜ Laid (now image) layout × isMember layout x ⌝ }
     ensures { λ r. ⌜ r ≡ memberRange (modelOf (now (image .entry))) x ⌝ }

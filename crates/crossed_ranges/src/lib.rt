@@ -240,6 +240,7 @@ fn integer_range(a: IntAttrs, min: i64, max: i64) -> Range
 
 // ---- any kind
 
+// The range of the attributes at an offset, whatever their kind; `Range::Absent` where they have none.
 pub fn range_of(image: &[u8], layout: Layout, at: usize) -> Range
     requires { ⌜ Laid (now image) layout × (at ≤ longestImage + connectorAttrs) × (at + attrsLength ≤ length (now image)) ⌝ }
     ensures { λ r. ⌜ r ≡ rangeOf (modelOf (now (image .entry))) (attrsAt (now (image .entry)) at) ⌝ }

@@ -46,6 +46,7 @@ fn put_crossed(
 
 // ---- detail 1
 
+// Reports connector i, if the range of its attributes is crossed.
 pub fn connector_crossed(
     image: &[u8],
     layout: Layout,
@@ -81,6 +82,7 @@ fn connectors_crossed(image: &[u8], layout: Layout, report: &mut [u8], counted: 
 
 // ---- detail 2
 
+// The same of boundary input i.
 pub fn input_crossed(
     image: &[u8],
     layout: Layout,
@@ -115,6 +117,7 @@ fn inputs_crossed(image: &[u8], layout: Layout, report: &mut [u8], counted: Coun
 
 // ---- detail 3
 
+// The same of boundary output i.
 pub fn output_crossed(
     image: &[u8],
     layout: Layout,

@@ -51,6 +51,7 @@ pub fn int_attrs(image: &[u8], at: usize) -> IntAttrs
     }
 }
 
+// The kind of the attributes at an offset.
 pub fn attrs_kind(image: &[u8], at: usize) -> usize
     requires { ⌜ at ≤ longestImage + connectorAttrs ⌝ }
     requires { ⌜ at + attrsLength ≤ length (now image) ⌝ }

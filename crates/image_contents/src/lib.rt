@@ -152,6 +152,7 @@ pub fn bad_type(dir: usize, kind: usize, class: usize) -> bool
 
 // ---- 6
 
+// The attributes at an offset break a rule of theirs: kind, marks, or a number that isn't marked and isn't 0.
 pub fn bad_attrs(s: &[u8], at: usize) -> bool
     requires { ⌜ at ≤ longestImage + connectorAttrs ⌝ }
     ensures { λ r. ⌜ r ≡ badAttrs (attrsAt (now (s .entry)) at) ⌝ }
@@ -167,6 +168,7 @@ pub fn bad_attrs(s: &[u8], at: usize) -> bool
     bad_marks(kind, marks) | is_straying(marks, quantity, unit, display, min, max, nominal)
 }
 
+// The head has another version, or zero bytes that aren't.
 pub fn bad_head(s: &[u8], at: usize) -> bool
     requires { ⌜ at ≤ longestImage ⌝ }
     ensures { λ r. ⌜ r ≡ badHead (now (s .entry)) at ⌝ }
@@ -177,6 +179,7 @@ pub fn bad_head(s: &[u8], at: usize) -> bool
     at16(s, at + HEAD_ZEROS_AT) != 0
 }
 
+// A connector has no such direction, type, or a class without being an enum.
 pub fn bad_connector(s: &[u8], at: usize) -> bool
     requires { ⌜ at ≤ longestImage ⌝ }
     ensures { λ r. ⌜ r ≡ badConnector (connectorAt (now (s .entry)) at) ⌝ }
@@ -187,6 +190,7 @@ pub fn bad_connector(s: &[u8], at: usize) -> bool
     bad_type(dir, kind, class)
 }
 
+// A field's contents break refusal 6.
 pub fn bad_contents(s: &[u8], f: Field) -> bool
     requires { ⌜ f .at ≤ longestImage ⌝ }
     ensures { λ r. ⌜ r ≡ badContents (now (s .entry)) f ⌝ }
@@ -212,6 +216,7 @@ pub fn bad_contents(s: &[u8], f: Field) -> bool
 
 // ---- 8; n is the number of texts
 
+// A text number that the attributes mark as set is none of n texts'.
 pub fn bad_text_numbers(n: usize, s: &[u8], at: usize) -> bool
     requires { ⌜ at ≤ longestImage + connectorAttrs ⌝ }
     ensures { λ r. ⌜ r ≡ badTextNumbers n (attrsAt (now (s .entry)) at) ⌝ }
@@ -223,6 +228,7 @@ pub fn bad_text_numbers(n: usize, s: &[u8], at: usize) -> bool
     is_missing(n, marks, quantity, unit, display)
 }
 
+// A field has a text number that is none of n texts'.
 pub fn bad_reference(n: usize, s: &[u8], f: Field) -> bool
     requires { ⌜ f .at ≤ longestImage ⌝ }
     ensures { λ r. ⌜ r ≡ badReference n (now (s .entry)) f ⌝ }

@@ -46,6 +46,7 @@ ghost use Rattle.oce_model.specs.Refusals.{badTag, badBlockLength, badLength, t
 
 // ---- 3: tags
 
+// A tag that no field has, that falls, or a head where none may stand.
 pub fn bad_tag(f: Field) -> bool
     ensures { λ r. ⌜ r ≡ badTag f ⌝ }
 {
@@ -121,6 +122,7 @@ fn fixed_length(tag: usize) -> usize
     0
 }
 
+// A field's length isn't its tag's.
 pub fn bad_length(s: &[u8], f: Field) -> bool
     requires { ⌜ f .at ≤ longestImage ⌝ }
     ensures { λ r. ⌜ r ≡ badLength (now (s .entry)) f ⌝ }
@@ -157,6 +159,7 @@ fn most_of(tag: usize) -> usize
     0
 }
 
+// A field beyond the most that its tag may have.
 pub fn too_many(f: Field) -> bool
     ensures { λ r. ⌜ r ≡ tooMany f ⌝ }
 {
@@ -188,6 +191,7 @@ pub fn has_bad_byte(bytes: &[u8]) -> bool
     false
 }
 
+// A text holds a byte that no text may hold.
 pub fn bad_text(s: &[u8], f: Field) -> bool
     requires { ⌜ f .at ≤ longestImage ⌝ }
     ensures { λ r. ⌜ r ≡ badText (now (s .entry)) f ⌝ }
@@ -202,6 +206,7 @@ pub fn bad_text(s: &[u8], f: Field) -> bool
 
 // ---- all of them: the field is at fault under refusal k, for k from 3 to 8; n is the number of texts
 
+// A field is at fault under refusal k, in an image of n texts.
 pub fn is_at_fault(k: usize, n: usize, s: &[u8], f: Field) -> bool
     requires { ⌜ f .at ≤ longestImage ⌝ }
     ensures { λ r. ⌜ r ≡ fault k n (now (s .entry)) f ⌝ }

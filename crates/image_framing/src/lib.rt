@@ -69,6 +69,7 @@ fn field_at(s: &[u8], at: usize, prev: usize, n: usize) -> Field
     }
 }
 
+// The field at the start.
 pub fn first_field(s: &[u8]) -> Field
     ensures { λ r. ⌜ (r ≡ start (now (s .entry))) × (r .len < shortRange) ⌝ }
 {

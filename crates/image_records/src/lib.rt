@@ -70,6 +70,7 @@ fn connector_at(image: &[u8], at: usize) -> Connector
     }
 }
 
+// Connector i.
 pub fn connector(image: &[u8], layout: Layout, i: ConnectorId) -> Connector
     requires { ⌜ Laid (now image) layout × (i .0 < layout .connectors .count) ⌝ }
     ensures { λ r. ⌜ (r ≡ connectorRead (connector (modelOf (now (image .entry))) (i .0))) × (r .iri < shortRange) ⌝ }
@@ -89,6 +90,7 @@ pub fn connector_attrs(image: &[u8], layout: Layout, i: ConnectorId) -> usize
 
 // ---- connections and external inputs
 
+// Connection k.
 pub fn connection(image: &[u8], layout: Layout, k: usize) -> Connection
     requires { ⌜ Laid (now image) layout × (k < layout .connections .count) ⌝ }
     ensures { λ r. ⌜ r ≡ connection (modelOf (now (image .entry))) k ⌝ }
@@ -130,6 +132,7 @@ pub fn boundary_input_attrs(image: &[u8], layout: Layout, i: usize) -> usize
     record_at(c, BOUNDARY_INPUT_SIZE, i) + BOUNDARY_INPUT_ATTRS
 }
 
+// Boundary output i.
 pub fn boundary_output(image: &[u8], layout: Layout, i: usize) -> BoundaryOutput
     requires { ⌜ Laid (now image) layout × (i < layout .outputs .count) ⌝ }
     ensures { λ r. ⌜ (r ≡ outputRead (boundaryOutput (modelOf (now (image .entry))) i)) × (r .iri < shortRange) ⌝ }
@@ -162,6 +165,7 @@ pub fn block_offset(image: &[u8], layout: Layout, blocks: &[usize], i: BlockId) 
     blocks[k]
 }
 
+// The block whose field stands at an offset.
 pub fn block(image: &[u8], at: usize) -> Block
     requires { ⌜ at ≤ longestImage ⌝ }
     requires { ⌜ at + blockPorts ≤ length (now image) ⌝ }

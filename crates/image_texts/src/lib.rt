@@ -114,6 +114,7 @@ pub fn text_of<'a>(image: &'a [u8], layout: Layout, texts: &[usize], i: usize) -
     part_of(image, at + LEADING_BYTES, at16(image, at + FIELD_LENGTH_AT))
 }
 
+// Two texts, by their numbers, have the same bytes.
 pub fn same_text<'a>(
     image: &'a [u8],
     layout: Layout,

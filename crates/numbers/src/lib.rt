@@ -7,6 +7,7 @@ ghost use lib.Ieee.Scale.{finite};
 ghost use Rattle.base.specs.Buffers.{patch};
 ghost use Rattle.numbers.specs.Bytes.{byteRange, shortRange, wordRange, byte, le16, le32, le64, leBytes, signed64, real64};
 
+// A byte as a number.
 pub fn wide(x: u8) -> usize
     ensures { λ r. ⌜ (r ≡ x) × (r < byteRange) ⌝ }
 {
@@ -15,6 +16,7 @@ pub fn wide(x: u8) -> usize
 
 // ---- the number that stands in a slice from index at on
 
+// Of one byte.
 pub fn read8(s: &[u8], at: usize) -> usize
     requires { ⌜ at < length (now s) ⌝ }
     ensures { λ r. ⌜ (r ≡ byte (now (s .entry)) at) × (r < byteRange) ⌝ }
@@ -22,6 +24,7 @@ pub fn read8(s: &[u8], at: usize) -> usize
     wide(s[at])
 }
 
+// Of two bytes, the low one first.
 pub fn read16(s: &[u8], at: usize) -> usize
     requires { ⌜ at + 2 ≤ length (now s) ⌝ }
     ensures { λ r. ⌜ (r ≡ le16 (now (s .entry)) at) × (r < shortRange) ⌝ }
@@ -29,6 +32,7 @@ pub fn read16(s: &[u8], at: usize) -> usize
     wide(s[at]) + 256 * wide(s[at + 1])
 }
 
+// Of four.
 pub fn read32(s: &[u8], at: usize) -> usize
     requires { ⌜ at + 4 ≤ length (now s) ⌝ }
     ensures { λ r. ⌜ (r ≡ le32 (now (s .entry)) at) × (r < wordRange) ⌝ }
@@ -36,6 +40,7 @@ pub fn read32(s: &[u8], at: usize) -> usize
     read16(s, at) + 65536 * read16(s, at + 2)
 }
 
+// Of eight.
 pub fn read64(s: &[u8], at: usize) -> u64
     requires { ⌜ at + 8 ≤ length (now s) ⌝ }
     ensures { λ r. ⌜ r ≡ le64 (now (s .entry)) at ⌝ }
@@ -47,6 +52,7 @@ pub fn read64(s: &[u8], at: usize) -> u64
 
 // ---- the same of any index: bytes past the end count as 0
 
+// Of one byte.
 pub fn byte_at(s: &[u8], at: usize) -> usize
     ensures { λ r. ⌜ (r ≡ byte (now (s .entry)) at) × (r < byteRange) ⌝ }
 {
@@ -56,6 +62,7 @@ pub fn byte_at(s: &[u8], at: usize) -> usize
     0
 }
 
+// Of two bytes.
 pub fn at16(s: &[u8], at: usize) -> usize
     ensures { λ r. ⌜ (r ≡ le16 (now (s .entry)) at) × (r < shortRange) ⌝ }
 {
@@ -65,6 +72,7 @@ pub fn at16(s: &[u8], at: usize) -> usize
     byte_at(s, at) + 256 * byte_at(s, at + 1)
 }
 
+// Of four.
 pub fn at32(s: &[u8], at: usize) -> usize
     ensures { λ r. ⌜ (r ≡ le32 (now (s .entry)) at) × (r < wordRange) ⌝ }
 {
@@ -80,6 +88,7 @@ pub fn at32(s: &[u8], at: usize) -> usize
     at16(s, at) + 65536 * at16(s, at + 2)
 }
 
+// Of eight.
 pub fn at64(s: &[u8], at: usize) -> u64
     ensures { λ r. ⌜ r ≡ le64 (now (s .entry)) at ⌝ }
 {
@@ -99,6 +108,7 @@ pub fn at64(s: &[u8], at: usize) -> u64
 
 // ---- a number written into a slice from index at on
 
+// Writes two bytes from index at on, the low one first.
 pub fn write16(s: &mut [u8], at: usize, v: u16)
     requires { ⌜ at + 2 ≤ length (now s) ⌝ }
     ensures { λ _. ⌜ now (s .exit) ≡ patch (now (s .entry)) at (leBytes 2 v) ⌝ }
@@ -107,6 +117,7 @@ pub fn write16(s: &mut [u8], at: usize, v: u16)
     copy_at(s, at, &bytes);
 }
 
+// Writes four.
 pub fn write32(s: &mut [u8], at: usize, v: u32)
     requires { ⌜ at + 4 ≤ length (now s) ⌝ }
     ensures { λ _. ⌜ now (s .exit) ≡ patch (now (s .entry)) at (leBytes 4 v) ⌝ }
@@ -115,6 +126,7 @@ pub fn write32(s: &mut [u8], at: usize, v: u32)
     write16(s, at + 2, (v / 65536) as u16);
 }
 
+// Writes eight.
 pub fn write64(s: &mut [u8], at: usize, v: u64)
     requires { ⌜ at + 8 ≤ length (now s) ⌝ }
     ensures { λ _. ⌜ now (s .exit) ≡ patch (now (s .entry)) at (leBytes 8 v) ⌝ }
@@ -135,6 +147,7 @@ pub fn real_of_bits(b: u64) -> f64
     f64::from_bits(b)
 }
 
+// The signed number that 64 bits stand for, in two's complement.
 pub fn int_of_bits(b: u64) -> i64
     ensures { λ r. ⌜ r ≡ signed64 b ⌝ }
 {

@@ -111,6 +111,7 @@ pub fn block_subject_of(instance: usize, id: u32) -> Subject
     Subject::Text(instance as u32)
 }
 
+// An error.
 pub fn error(code: DiagCode, rule: u8, detail: u8, subject: Subject, place: u32) -> Diagnostic
     ensures { λ r. ⌜ r ≡ error code rule detail subject place ⌝ }
 {
@@ -124,6 +125,7 @@ pub fn error(code: DiagCode, rule: u8, detail: u8, subject: Subject, place: u32)
     }
 }
 
+// A warning.
 pub fn warning(code: DiagCode, rule: u8, detail: u8, subject: Subject, place: u32) -> Diagnostic
     ensures { λ r. ⌜ r ≡ warning code rule detail subject place ⌝ }
 {

@@ -111,6 +111,7 @@ fn block_ports(
     )
 }
 
+// What rule 1 reports of block i: its id, then its ports.
 pub fn block_faults(
     image: &[u8],
     layout: Layout,
@@ -182,6 +183,7 @@ fn id_and_block(
     put_if(report, before, !((block as usize) < n), outside)
 }
 
+// What rule 1 reports of connector i: its id, then its block.
 pub fn connector_faults(
     image: &[u8],
     layout: Layout,
@@ -216,6 +218,7 @@ fn all_connectors(image: &[u8], layout: Layout, report: &mut [u8], counted: Coun
 
 // ---- rule 1
 
+// All blocks in turn, then all connectors.
 pub fn check_arena_ids(
     image: &[u8],
     layout: Layout,

@@ -84,6 +84,7 @@ fn degree_faults(
     none_or_many(i.0, subject, d, outside, report, counted)
 }
 
+// What rule 3 reports of connector i: an input that nothing drives, or that is driven more than once.
 pub fn assignment_faults(
     image: &[u8],
     layout: Layout,
@@ -105,7 +106,7 @@ pub fn assignment_faults(
     degree_faults(image, layout, degrees, externals, i, id, subject, report, counted)
 }
 
-// degrees and externals are as `in_degrees` and `list_externals` leave them.
+// All connectors in turn; degrees and externals are as `in_degrees` and `list_externals` leave them.
 pub fn check_single_assignment(
     image: &[u8],
     layout: Layout,

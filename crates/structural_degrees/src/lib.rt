@@ -67,36 +67,37 @@ fn portion_length(first: usize, count: usize) -> usize
 }
 
 // Counts the portion from number k on. How many connections are then counted.
-fn count_portion(image: &[u8], layout: Layout, k: usize, ds: &mut [u32]) -> usize
-    requires { ⌜ Laid (now image) layout × (k < layout .connections .count) × Counts (modelOf (now image)) k (now ds) ⌝ }
-    ensures { λ r. ⌜ Counts (modelOf (now (image .entry))) r (now (ds .exit)) × (k < r) × (r ≤ layout .connections .count) × (length (now (ds .exit)) ≡ length (now (ds .entry))) ⌝ }
+fn count_portion(image: &[u8], layout: Layout, k: usize, degrees: &mut [u32]) -> usize
+    requires { ⌜ Laid (now image) layout × (k < layout .connections .count) × Counts (modelOf (now image)) k (now degrees) ⌝ }
+    ensures { λ r. ⌜ Counts (modelOf (now (image .entry))) r (now (degrees .exit)) × (k < r) × (r ≤ layout .connections .count) × (length (now (degrees .exit)) ≡ length (now (degrees .entry))) ⌝ }
 {
     let connections = layout.connections;
     let n = portion_length(k, connections.count);
     let list = read_connections(image, layout, k, n);
-    add_portion(list, n, ds);
+    add_portion(list, n, degrees);
     k + n
 }
 
 // All entries are 0.
-fn clear(ds: &mut [u32])
-    ensures { λ _. ⌜ Clears (now (ds .entry)) (length (now (ds .entry))) (now (ds .exit)) ⌝ }
+fn clear(degrees: &mut [u32])
+    ensures { λ _. ⌜ Clears (now (degrees .entry)) (length (now (degrees .entry))) (now (degrees .exit)) ⌝ }
 {
     let mut i = 0;
-    while i < ds.len() {
-        ds[i] = 0;
+    while i < degrees.len() {
+        degrees[i] = 0;
         i += 1;
     }
 }
 
-pub fn in_degrees(image: &[u8], layout: Layout, ds: &mut [u32])
-    requires { ⌜ Laid (now image) layout × (layout .connectors .count ≤ length (now ds)) ⌝ }
-    ensures { λ _. ⌜ Degrees (modelOf (now (image .entry))) (now (ds .exit)) × (length (now (ds .exit)) ≡ length (now (ds .entry))) ⌝ }
+// How many connections lead to each connector.
+pub fn in_degrees(image: &[u8], layout: Layout, degrees: &mut [u32])
+    requires { ⌜ Laid (now image) layout × (layout .connectors .count ≤ length (now degrees)) ⌝ }
+    ensures { λ _. ⌜ Degrees (modelOf (now (image .entry))) (now (degrees .exit)) × (length (now (degrees .exit)) ≡ length (now (degrees .entry))) ⌝ }
 {
     let connections = layout.connections;
-    clear(ds);
+    clear(degrees);
     let mut k = 0;
     while k < connections.count {
-        k = count_portion(image, layout, k, ds);
+        k = count_portion(image, layout, k, degrees);
     }
 }

@@ -32,68 +32,69 @@ fn half(n: usize) -> usize
 }
 
 // External input k marks its id's entry, or is put behind the n others. How many others there are then.
-fn list_one(image: &[u8], layout: Layout, k: usize, n: usize, xs: &mut [u32]) -> usize
-    requires { ⌜ Laid (now image) layout × (k < layout .externals .count) × Lists (modelOf (now image)) k n (now xs) × (n < listedIds (now xs)) ⌝ }
-    ensures { λ r. ⌜ Lists (modelOf (now (image .entry))) (k + 1) r (now (xs .exit)) ⌝ }
+fn list_one(image: &[u8], layout: Layout, k: usize, n: usize, externals: &mut [u32]) -> usize
+    requires { ⌜ Laid (now image) layout × (k < layout .externals .count) × Lists (modelOf (now image)) k n (now externals) × (n < listedIds (now externals)) ⌝ }
+    ensures { λ r. ⌜ Lists (modelOf (now (image .entry))) (k + 1) r (now (externals .exit)) ⌝ }
 {
-    let h = half(xs.len());
+    let h = half(externals.len());
     let id = external_input(image, layout, k);
     if id < h {
-        xs[id] = 1;
+        externals[id] = 1;
         return n;
     }
-    xs[h + n] = id as u32;
+    externals[h + n] = id as u32;
     n + 1
 }
 
 // Sorts the n others, and notes how many they are.
-fn sort_others(xs: &mut [u32], n: usize)
-    requires { ⌜ (n ≤ mostExternalInputs) × (n ≤ listedIds (now xs)) × (othersCount (now xs) < length (now xs)) ⌝ }
-    ensures { λ _. ⌜ Ordered n (now (xs .entry)) (now (xs .exit)) ⌝ }
+fn sort_others(externals: &mut [u32], n: usize)
+    requires { ⌜ (n ≤ mostExternalInputs) × (n ≤ listedIds (now externals)) × (othersCount (now externals) < length (now externals)) ⌝ }
+    ensures { λ _. ⌜ Ordered n (now (externals .entry)) (now (externals .exit)) ⌝ }
 {
-    let h = half(xs.len());
+    let h = half(externals.len());
     if n <= 1 {
-        xs[h + h] = n as u32;
+        externals[h + h] = n as u32;
         return;
     }
     let mut tmp = [0u32; MOST_EXTERNAL_INPUTS];
     let end = h + n;
-    sort(&mut xs[h..end], &mut tmp);
-    xs[h + h] = n as u32;
+    sort(&mut externals[h..end], &mut tmp);
+    externals[h + h] = n as u32;
 }
 
-// xs is cleared by the caller.
-pub fn list_externals(image: &[u8], layout: Layout, xs: &mut [u32])
-    requires { ⌜ Laid (now image) layout × Lists (modelOf (now image)) 0 0 (now xs) ⌝ }
-    ensures { λ _. ⌜ Listed (modelOf (now (image .entry))) (now (xs .exit)) ⌝ }
+// The external inputs of an image in a column, which the caller has cleared.
+pub fn list_externals(image: &[u8], layout: Layout, externals: &mut [u32])
+    requires { ⌜ Laid (now image) layout × Lists (modelOf (now image)) 0 0 (now externals) ⌝ }
+    ensures { λ _. ⌜ Listed (modelOf (now (image .entry))) (now (externals .exit)) ⌝ }
 {
-    let externals = layout.externals;
+    let section = layout.externals;
     let mut k = 0;
     let mut n = 0;
-    while k < externals.count {
-        n = list_one(image, layout, k, n, xs);
+    while k < section.count {
+        n = list_one(image, layout, k, n, externals);
         k += 1;
     }
-    sort_others(xs, n);
+    sort_others(externals, n);
 }
 
 // How many others a column has.
-fn others(xs: &[u32]) -> usize
-    requires { ⌜ othersCount (now xs) < length (now xs) ⌝ }
-    ensures { λ r. ⌜ r ≡ getD (now (xs .entry)) (othersCount (now (xs .entry))) 0 ⌝ }
+fn others(externals: &[u32]) -> usize
+    requires { ⌜ othersCount (now externals) < length (now externals) ⌝ }
+    ensures { λ r. ⌜ r ≡ getD (now (externals .entry)) (othersCount (now (externals .entry))) 0 ⌝ }
 {
-    let h = half(xs.len());
-    wide(xs[h + h])
+    let h = half(externals.len());
+    wide(externals[h + h])
 }
 
-pub fn is_external(image: &[u8], layout: Layout, xs: &[u32], id: usize) -> bool
-    requires { ⌜ Laid (now image) layout × Listed (modelOf (now image)) (now xs) ⌝ }
+// An id is that of an external input.
+pub fn is_external(image: &[u8], layout: Layout, externals: &[u32], id: usize) -> bool
+    requires { ⌜ Laid (now image) layout × Listed (modelOf (now image)) (now externals) ⌝ }
     ensures { λ r. ⌜ r ≡ external (modelOf (now (image .entry))) id ⌝ }
 {
-    let h = half(xs.len());
+    let h = half(externals.len());
     if id < h {
-        return xs[id] == 1;
+        return externals[id] == 1;
     }
-    let end = h + others(xs);
-    is_among(&xs[h..end], id)
+    let end = h + others(externals);
+    is_among(&externals[h..end], id)
 }

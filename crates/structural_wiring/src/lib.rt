@@ -69,6 +69,7 @@ fn source_faults(
     direction_and_kind(i as u32, subject, own, c.dir, c.kind, report, counted)
 }
 
+// What rule 2 reports of boundary output i.
 pub fn output_faults(
     image: &[u8],
     layout: Layout,
@@ -90,6 +91,7 @@ pub fn output_faults(
     put(report, counted, outside)
 }
 
+// All boundary outputs in turn.
 pub fn check_boundary_outputs(
     image: &[u8],
     layout: Layout,
@@ -182,6 +184,7 @@ fn end_faults(
     )
 }
 
+// What rule 4 reports of connection k.
 pub fn connection_faults(
     image: &[u8],
     layout: Layout,
@@ -215,6 +218,7 @@ pub fn connection_faults(
     put(report, counted, outside)
 }
 
+// All connections in turn.
 pub fn check_connections(
     image: &[u8],
     layout: Layout,
