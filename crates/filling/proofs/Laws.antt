@@ -4,17 +4,17 @@ use native.Mathlib.Numerals.{add-one}
 use native.Mathlib.Omega.{arith}
 use mathlib.Core.Path.{_≡_, refl, sym, ap, _∙_}
 use mathlib.Core.List.{List, [], _∷_, _++_, append-assoc}
-use lib.ListN.{length, getD, take, drop, length-append}
+use lib.ListN.{length, take, drop, length-append}
 use lib.Seq.{take-append-le, drop-append-le}
 use Rattle.base.specs.Lists.{each, steps}
 use Rattle.base.specs.Buffers.{patch, startsWith}
 use Rattle.base.proofs.Buffers.{patch-length, patch-patch}
 use Rattle.base.proofs.Patches.{patched, patched-next, patched-length}
-use Rattle.numbers.specs.Bytes.{leBytes}
+use Rattle.numbers.specs.Bytes.{byteRange, shortRange, leBytes}
 use Rattle.numbers.proofs.Bytes.{leBytes-low, leBytes-length}
-use Rattle.oce_model.specs.Format.{attrsLength, longestImage, quantityBit, unitBit, displayUnitBit, minBit, maxBit, nominalBit, connectorTag, connectorSize, connectorAttrs, boundaryOutputTag, boundaryOutputSize, boundaryOutputAttrs, fixedLength}
+use Rattle.oce_model.specs.Format.{attrsLength, attrsQuantityAt, attrsMinAt, longestImage, quantityBit, unitBit, displayUnitBit, minBit, maxBit, nominalBit, connectorTag, connectorSize, connectorAttrs, boundaryOutputTag, boundaryOutputSize, boundaryOutputAttrs, fixedLength}
 use Rattle.oce_model.specs.Image.{startOf}
-use Rattle.oce_model.specs.Attributes.{attrsBytes}
+use Rattle.oce_model.specs.Attributes.{Attrs, num, attrsBytes}
 use Rattle.oce_model.specs.Model.{modelOf}
 use Rattle.oce_model.proofs.Accepted.{Accepted, accepted, connectors-length, outputs-length}
 use Rattle.oce_model.proofs.Attributes.{bytes-length}
@@ -23,11 +23,12 @@ use Rattle.image_accept.specs.Layout.{Laid, sectionOf, layoutOf}
 use Rattle.image_accept.specs.declared.Layout.{Layout}
 use Rattle.image_records.proofs.Laws.{connectors-counted}
 use Rattle.unify.specs.Slots.{Slots, slot}
-use Rattle.unify_slots.specs.Columns.{width, attrsOf, view, slotCount, Room}
-use Rattle.unify_slots.proofs.Laws.{slot-view}
+use Rattle.unify_slots.specs.Table.{view, slotCount}
 use Rattle.outcome.specs.Filled.{withSlots}
 use Rattle.moved.proofs.Regions.{offset, connectorSlots, outputSlots, offset-connector, offset-out, slots-fit, slots-apart}
 use Rattle.moved.proofs.Refilled.{withSlots-is}
+use Rattle.filling.specs.Small.{Small}
+use Rattle.filling.specs.Parts.{leadBytes, textBytes, endBytes}
 
 -- ---- bytes in three parts
 
@@ -40,23 +41,40 @@ patch-three s at v w xs ys zs c b a lx ly fits =
     c ∙ rw (b, a, m, patch-patch s at xs ys (omega arith), n) (patch-patch s at (xs ++ ys) zs (omega arith))
 
 -- three numbers of w bytes
-pub patch-numbers : (w : ℕ) (s : List ℕ) (at a b c : ℕ) {s₁ s₂ s₃ : List ℕ} → s₃ ≡ patch s₂ (at + (w + w)) (leBytes w c) → s₂ ≡ patch s₁ (at + w) (leBytes w b) → s₁ ≡ patch s at (leBytes w a)
+patch-numbers : (w : ℕ) (s : List ℕ) (at a b c : ℕ) {s₁ s₂ s₃ : List ℕ} → s₃ ≡ patch s₂ (at + (w + w)) (leBytes w c) → s₂ ≡ patch s₁ (at + w) (leBytes w b) → s₁ ≡ patch s at (leBytes w a)
     → at + (w + w + w) ≤ length s → s₃ ≡ patch s at (leBytes w a ++ leBytes w b ++ leBytes w c)
 patch-numbers w s at a b c z y x fits =
     patch-three s at w (w + w) (leBytes w a) (leBytes w b) (leBytes w c) z y x (leBytes-length w a) (rw (leBytes-length w b)) (omega arith)
 
--- by their low bytes
-pub patch-lows : (w : ℕ) (s : List ℕ) (at a b c : ℕ) {s₁ s₂ s₃ : List ℕ} → s₃ ≡ patch s₂ (at + (w + w)) (leBytes w (c % 256 ^ w)) → s₂ ≡ patch s₁ (at + w) (leBytes w (b % 256 ^ w))
-    → s₁ ≡ patch s at (leBytes w (a % 256 ^ w)) → at + (w + w + w) ≤ length s → s₃ ≡ patch s at (leBytes w a ++ leBytes w b ++ leBytes w c)
-patch-lows w s at a b c z y x fits = patch-numbers w s at a b c (z ∙ rw (leBytes-low w c)) (y ∙ rw (leBytes-low w b)) (x ∙ rw (leBytes-low w a)) fits
+-- the three parts of attributes
+module _ (s : List ℕ) (at : ℕ) (a : Attrs) where
+  pub patch-lead : {s₁ : List ℕ} {k m : ℕ} → s₁ ≡ patch s at (k ∷ m ∷ []) → k ≡ a .kind → m ≡ a .marks → s₁ ≡ patch s at (leadBytes a)
+  unfolding leadBytes
+  patch-lead h ek em = rw (ek, em) at h
 
--- the attributes of slot j
-pub patch-slot : (s : List ℕ) (at : ℕ) (ks ms ns : List ℕ) (j : ℕ) {s₁ s₂ s₃ : List ℕ}
-    → s₃ ≡ patch s₂ (at + 8) (leBytes 8 (getD ns (width * j + minBit) 0) ++ leBytes 8 (getD ns (width * j + maxBit) 0) ++ leBytes 8 (getD ns (width * j + nominalBit) 0))
-    → s₂ ≡ patch s₁ (at + 2) (leBytes 2 (getD ns (width * j + quantityBit) 0) ++ leBytes 2 (getD ns (width * j + unitBit) 0) ++ leBytes 2 (getD ns (width * j + displayUnitBit) 0))
-    → s₁ ≡ patch s at (getD ks j 0 ∷ getD ms j 0 ∷ []) → at + attrsLength ≤ length s → s₃ ≡ patch s at (attrsBytes (attrsOf ks ms ns j))
-unfolding attrsBytes attrsOf leBytes each
-patch-slot s at ks ms ns j z y x fits = patch-three s at 2 8 (getD ks j 0 ∷ getD ms j 0 ∷ []) _ _ z y x refl refl (omega arith)
+  pub patch-texts : {s₁ s₂ s₃ : List ℕ} {x y z : ℕ} → s₃ ≡ patch s₂ (at + 4) (leBytes 2 (z % shortRange)) → s₂ ≡ patch s₁ (at + 2) (leBytes 2 (y % shortRange)) → s₁ ≡ patch s at (leBytes 2 (x % shortRange))
+      → x ≡ num a quantityBit → y ≡ num a unitBit → z ≡ num a displayUnitBit → at + 6 ≤ length s → s₃ ≡ patch s at (textBytes a)
+  unfolding textBytes
+  patch-texts {x = x} {y} {z} h g f ex ey ez fits =
+      patch-numbers 2 s at (num a quantityBit) (num a unitBit) (num a displayUnitBit)
+      (h ∙ rw (leBytes-low 2 z, ez)) (g ∙ rw (leBytes-low 2 y, ey)) (f ∙ rw (leBytes-low 2 x, ex)) fits
+
+  pub patch-ends : {s₁ s₂ s₃ : List ℕ} {x y z : ℕ} → s₃ ≡ patch s₂ (at + 16) (leBytes 8 z) → s₂ ≡ patch s₁ (at + 8) (leBytes 8 y) → s₁ ≡ patch s at (leBytes 8 x)
+      → x ≡ num a minBit → y ≡ num a maxBit → z ≡ num a nominalBit → at + 24 ≤ length s → s₃ ≡ patch s at (endBytes a)
+  unfolding endBytes
+  patch-ends h g f ex ey ez fits = patch-numbers 8 s at (num a minBit) (num a maxBit) (num a nominalBit) (rw ez at h) (rw ey at g) (rw ex at f) fits
+
+  pub patch-attrs : {s₁ s₂ s₃ : List ℕ} → s₃ ≡ patch s₂ (at + attrsMinAt) (endBytes a) → s₂ ≡ patch s₁ (at + attrsQuantityAt) (textBytes a) → s₁ ≡ patch s at (leadBytes a) → at + attrsLength ≤ length s → s₃ ≡ patch s at (attrsBytes a)
+  unfolding attrsBytes leadBytes textBytes endBytes leBytes
+  patch-attrs h g f fits = patch-three s at attrsQuantityAt attrsMinAt (leadBytes a) (textBytes a) (endBytes a) h g f refl refl (omega arith)
+
+-- kind and marks that are bytes
+module _ (σ : Slots) (j : ℕ) (small : Small σ) where
+  pub small-kind : {k : ℕ} → k ≡ slot σ j .kind → k < byteRange
+  small-kind e = rw e (small .kinds j)
+
+  pub small-marks : {m : ℕ} → m ≡ slot σ j .marks → m < byteRange
+  small-marks e = rw e (small .marks j)
 
 -- ---- where a slot's attributes stand
 
@@ -125,46 +143,40 @@ module _ (s : List ℕ) (acc : Accepted s) (σ : Slots) (b : List ℕ) where
       let f : offset s n + length (bytesOf σ n) ≤ length (patched s (offset s) (bytesOf σ) n) = omega (arith, sizes σ n, slots-fit s acc n l) in
       ap (λ t. patch t (offset s n) (bytesOf σ n)) (slots-start n (omega arith)) ∙ patch-start (patched s (offset s) (bytesOf σ) n) b (offset s n) (bytesOf σ n) f
 
--- the slots before j, of s, are written into a buffer that holds the image
-pub record Fills (image : List ℕ) (s : ℕ) (ks ms ns filled₀ filled : List ℕ) (j : ℕ) : Type 0 where
+-- the slots before j, of n, are written into a buffer that holds the image
+pub record Fills (image : List ℕ) (n : ℕ) (table filled₀ filled : List ℕ) (j : ℕ) : Type 0 where
   pub accepted : Accepted image
-  pub count : s ≡ connectorSlots image + outputSlots image
-  pub room : Room s ks ms ns
+  pub count : n ≡ connectorSlots image + outputSlots image
   pub fits : length image ≤ length filled
-  pub within : j ≤ s
-  pub same : filled ≡ patched filled₀ (offset image) (bytesOf (view s ks ms ns)) j
+  pub within : j ≤ n
+  pub same : filled ≡ patched filled₀ (offset image) (bytesOf (view n table)) j
   pub long : length filled ≡ length filled₀
 
-pub fills-start : {image : List ℕ} {l : Layout} {s : ℕ} {ks ms ns filled₀ : List ℕ} → Laid image l → s ≡ slotCount (modelOf image) → Room s ks ms ns → length image ≤ length filled₀
-    → Fills image s ks ms ns filled₀ filled₀ 0
+pub fills-start : {image : List ℕ} {l : Layout} {n : ℕ} {table filled₀ : List ℕ} → Laid image l → n ≡ slotCount (modelOf image) → length image ≤ length filled₀ → Fills image n table filled₀ filled₀ 0
 unfolding patched steps
-fills-start h c r f = record { accepted = acc h; count = c ∙ slots-all h; room = r; fits = f; within = omega arith; same = refl; long = refl }
+fills-start h c f = record { accepted = acc h; count = c ∙ slots-all h; fits = f; within = omega arith; same = refl; long = refl }
 
-module _ {image : List ℕ} {s : ℕ} {ks ms ns filled₀ filled : List ℕ} {j : ℕ} (v : Fills image s ks ms ns filled₀ filled j) where
-  pub fills-inside : j < s → j < slotCount (modelOf image)
+module _ {image : List ℕ} {n : ℕ} {table filled₀ filled : List ℕ} {j : ℕ} (v : Fills image n table filled₀ filled j) where
+  pub fills-inside : j < n → j < slotCount (modelOf image)
   fills-inside h = rw (connectors-length image, outputs-length image) (omega (arith, v .count))
 
-  pub fills-room : j < s → Room (j + 1) ks ms ns
-  fills-room h = record { kinds = omega (arith, v .room .kinds); marks = omega (arith, v .room .marks); nums = omega (arith, v .room .nums) }
-
-  pub fills-fit : {at : ℕ} → at ≡ offset image j → j < s → at + attrsLength ≤ length filled
+  pub fills-fit : {at : ℕ} → at ≡ offset image j → j < n → at + attrsLength ≤ length filled
   fills-fit o h = omega (arith, slots-fit image (v .accepted) j (omega (arith, v .count)), v .fits)
 
-  pub fills-turn : {at : ℕ} {filled′ : List ℕ} → filled′ ≡ patch filled at (attrsBytes (attrsOf ks ms ns j)) → at ≡ offset image j → j < s → length filled′ ≡ length filled
-      → Fills image s ks ms ns filled₀ filled′ (j + 1)
+  pub fills-turn : {at : ℕ} {filled′ : List ℕ} → filled′ ≡ patch filled at (attrsBytes (slot (view n table) j)) → at ≡ offset image j → j < n → length filled′ ≡ length filled
+      → Fills image n table filled₀ filled′ (j + 1)
   unfolding bytesOf
-  fills-turn e o h n = record {
+  fills-turn e o h l = record {
     accepted = v .accepted;
     count = v .count;
-    room = v .room;
     fits = omega (arith, v .fits);
     within = omega arith;
-    same = e ∙ rw (o, ← (slot-view s ks ms ns j h), v .same, add-one j) (sym (patched-next filled₀ (offset image) (bytesOf (view s ks ms ns)) j));
-    long = n ∙ v .long;
+    same = e ∙ rw (o, v .same, add-one j) (sym (patched-next filled₀ (offset image) (bytesOf (view n table)) j));
+    long = l ∙ v .long;
   }
 
-  pub fills-done : (b : List ℕ) → filled₀ ≡ startsWith image b → s ≤ j → filled ≡ startsWith (withSlots image (view s ks ms ns)) b
+  pub fills-done : (b : List ℕ) → filled₀ ≡ startsWith image b → n ≤ j → filled ≡ startsWith (withSlots image (view n table)) b
   unfolding bytesOf
   fills-done b e h =
       let q : j ≡ connectorSlots image + outputSlots image = omega (arith, v .within, v .count) in
-      v .same ∙ rw (e, q, withSlots-is image (view s ks ms ns)) (slots-start image (v .accepted) (view s ks ms ns) b (connectorSlots image + outputSlots image) (omega arith))
+      v .same ∙ rw (e, q, withSlots-is image (view n table)) (slots-start image (v .accepted) (view n table) b (connectorSlots image + outputSlots image) (omega arith))

@@ -145,21 +145,13 @@ module _ {f : ℕ → List Diagnostic} {k m : ℕ} {b₀ : List ℕ} {c₀ : Cou
   pub emits-few : {b : List ℕ} {c : Counted} {i : ℕ} → Emits f k m b₀ c₀ b c i → m ≤ i → Adds (k * m) c₀ c
   emits-few {i = i} v h = let e : m ≡ i = omega (arith, v .within) in rw e (v .few)
 
-  -- where at most n turns can come: how many it has counted in the end, and that each turn may count its own
-  module _ {b : List ℕ} {c : Counted} {i : ℕ} (n : ℕ) (v : Emits f k m b₀ c₀ b c i) where
-    pub emits-adds : m ≤ n → Adds (k * n) c₀ c
-    emits-adds h = omega (arith, v .few, mul-le-mul-left {i} {n} k (omega (arith, v .within)))
+  -- where at most n turns can come, t diagnostics: how many it has counted in the end, and that each turn may count its own
+  module _ {b : List ℕ} {c : Counted} {i n t : ℕ} (v : Emits f k m b₀ c₀ b c i) where
+    pub emits-adds : m ≤ n → k * n ≤ t → Adds t c₀ c
+    emits-adds h e = omega (arith, v .few, mul-le-mul-left {m = i} {n = n} k (omega (arith, v .within)))
 
-    pub emits-countable : m ≤ n → Countable (k * n) c₀ → i < m → Countable k c
-    emits-countable h e l = omega (arith, v .few, mul-suc k i, mul-le-mul-left {suc i} {n} k (omega arith))
+    pub emits-countable : m ≤ n → k * n ≤ t → Countable t c₀ → i < m → Countable k c
+    emits-countable h e p l = omega (arith, v .few, mul-suc k i, mul-le-mul-left {m = suc i} {n = n} k (omega arith))
 
   pub emits-length : {b : List ℕ} {c : Counted} {i : ℕ} → Emits f k m b₀ c₀ b c i → length b ≡ length b₀
   emits-length v = put-length (v .put)
-
--- the same where each turn puts one at most
-module _ {f : ℕ → List Diagnostic} {m : ℕ} {b₀ : List ℕ} {c₀ : Counted} {b : List ℕ} {c : Counted} {i n : ℕ} (v : Emits f 1 m b₀ c₀ b c i) where
-  pub emits-ones : m ≤ n → Adds n c₀ c
-  emits-ones h = omega (arith, v .few, v .within)
-
-  pub emits-one : m ≤ n → Countable n c₀ → i < m → Countable 1 c
-  emits-one h e l = omega (arith, v .few)

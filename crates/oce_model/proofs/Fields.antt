@@ -155,16 +155,3 @@ first-here p f l h = rw h
 pub first-later : (p : Field → Bool) (f : Field) (l : List Field) → p f ≡ false → first p (f ∷ l) ≡ first p l
 unfolding first
 first-later p f l h = rw h
-
--- ---- a search for that field
-
--- None of those passed is it. The laws are for a test that does not ask for `ord`
-pub record Searching (p : Field → Bool) (s : List ℕ) (at prev : ℕ) : Type 0 where
-  pub rest : List Field
-  pub walk : Walk s at prev rest
-  pub same : first p rest ≡ first p (fields s)
-
-module _ (p : Field → Bool) (s : List ℕ) where
-
-  module _ {at prev : ℕ} (w : Searching p s at prev) where
-

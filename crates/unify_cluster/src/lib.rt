@@ -1,5 +1,6 @@
 // One cluster of rule 6: what its seven details report, and what six of them fill.
 use image_accept::Layout;
+use image_records::connector;
 use oce_diag::Counted;
 use oce_diag::DiagCode;
 use oce_diag::Subject;
@@ -9,14 +10,13 @@ use oce_diag::subject_of;
 use oce_diag::warning;
 use oce_model::ConnectorId;
 use oce_model::MIN_BIT;
-use image_records::connector;
-use unify_settle::diverges;
-use unify_settle::settle;
-use unify_slots::bit_of;
 use unify_seen::Seen;
 use unify_seen::is_seen;
 use unify_seen::seen_in;
 use unify_seen::sees_nothing;
+use unify_settle::decide_and_apply;
+use unify_settle::diverges;
+use unify_slots::bit_of;
 ghost use mathlib.Core.Path.{_≡_};
 ghost use mathlib.Core.List.{[], _∷_};
 ghost use Prim.Native.Nat.{_+_, _≤_, _<_};
@@ -28,6 +28,7 @@ ghost use Rattle.oce_diag.specs.declared.DiagCode.the-variants.{DisplayUnitDive
 ghost use Rattle.oce_diag.specs.Putting.{total, Put};
 ghost use Rattle.unify.specs.Slots.{unifiedDetails, displayDetail};
 ghost use Rattle.unify.specs.Unify.{conflictCode};
+ghost use Rattle.unify_slots.specs.Table.{view};
 ghost use Rattle.unify_seen.specs.Seen.{Sees};
 ghost use Rattle.unify_settle.specs.Settle.{Ready};
 ghost use Rattle.unify_cluster.specs.Clusters.{Unseen, Detailed, Details, Displayed, Clustered};
@@ -40,95 +41,94 @@ const DISPLAY_DETAIL: usize = 7;
 
 // ---- diagnostics about a root
 
-// The Rust's `subject_of`, of connector r.
-pub fn subject(image: &[u8], layout: Layout, r: usize) -> Subject
-    requires { ⌜ Laid (now image) layout × (r < layout .connectors .count) ⌝ }
-    ensures { λ s. ⌜ s ≡ subjectOf (connector (modelOf (now (image .entry))) r) ⌝ }
+// The Rust's `subject_of`, of a root.
+pub fn subject(image: &[u8], layout: Layout, root: ConnectorId) -> Subject
+    requires { ⌜ Laid (now image) layout × (root .0 < layout .connectors .count) ⌝ }
+    ensures { λ s. ⌜ s ≡ subjectOf (connector (modelOf (now (image .entry))) (root .0)) ⌝ }
 {
-    let c = connector(image, layout, ConnectorId(r as u32));
+    let c = connector(image, layout, root);
     let id = c.id;
     subject_of(c.iri, id.0)
 }
 
 // The Rust's `RealAttr::conflict_code`: a text's conflict or an end's.
-fn conflict_code(d: usize) -> DiagCode
-    requires { ⌜ d ≤ displayDetail ⌝ }
-    ensures { λ r. ⌜ r ≡ conflictCode d ⌝ }
+fn conflict_code(detail: usize) -> DiagCode
+    requires { ⌜ detail ≤ displayDetail ⌝ }
+    ensures { λ r. ⌜ r ≡ conflictCode detail ⌝ }
 {
-    if bit_of(d) < MIN_BIT {
+    if bit_of(detail) < MIN_BIT {
         return DiagCode::UnitQuantityMismatch;
     }
     DiagCode::BoundMismatch
 }
 
-// An error of detail d about root r.
+// An error of a detail about a root.
 fn tell_conflict(
     image: &[u8],
     layout: Layout,
-    r: usize,
-    d: usize,
+    root: ConnectorId,
+    detail: usize,
     report: &mut [u8],
     counted: Counted,
 ) -> Counted
-    requires { ⌜ Laid (now image) layout × (r < layout .connectors .count) × (d ≤ displayDetail) × (total counted ≤ 3000000) ⌝ }
-    ensures { λ c. ⌜ Put (now (report .entry)) counted (error (conflictCode d) 6 d (subjectOf (connector (modelOf (now (image .entry))) r)) r ∷ []) (now (report .exit)) c × (total c ≤ total counted + 1) ⌝ }
+    requires { ⌜ Laid (now image) layout × (root .0 < layout .connectors .count) × (detail ≤ displayDetail) × (total counted ≤ 3000000) ⌝ }
+    ensures { λ c. ⌜ Put (now (report .entry)) counted (error (conflictCode detail) 6 detail (subjectOf (connector (modelOf (now (image .entry))) (root .0))) (root .0) ∷ []) (now (report .exit)) c × (total c ≤ total counted + 1) ⌝ }
 {
-    let s = subject(image, layout, r);
-    let code = conflict_code(d);
-    let e = error(code, RULE, d as u8, s, r as u32);
+    let s = subject(image, layout, root);
+    let code = conflict_code(detail);
+    let e = error(code, RULE, detail as u8, s, root.0);
     put(report, counted, e)
 }
 
-// A warning of detail 7 about root r.
+// A warning of detail 7 about a root.
 fn tell_divergence(
     image: &[u8],
     layout: Layout,
-    r: usize,
+    root: ConnectorId,
     report: &mut [u8],
     counted: Counted,
 ) -> Counted
-    requires { ⌜ Laid (now image) layout × (r < layout .connectors .count) × (total counted ≤ 3000000) ⌝ }
-    ensures { λ c. ⌜ Put (now (report .entry)) counted (warning DisplayUnitDivergence 6 displayDetail (subjectOf (connector (modelOf (now (image .entry))) r)) r ∷ []) (now (report .exit)) c × (total c ≤ total counted + 1) ⌝ }
+    requires { ⌜ Laid (now image) layout × (root .0 < layout .connectors .count) × (total counted ≤ 3000000) ⌝ }
+    ensures { λ c. ⌜ Put (now (report .entry)) counted (warning DisplayUnitDivergence 6 displayDetail (subjectOf (connector (modelOf (now (image .entry))) (root .0))) (root .0) ∷ []) (now (report .exit)) c × (total c ≤ total counted + 1) ⌝ }
 {
-    let s = subject(image, layout, r);
+    let s = subject(image, layout, root);
     let w = warning(
         DiagCode::DisplayUnitDivergence,
         RULE,
         DISPLAY_DETAIL as u8,
         s,
-        r as u32,
+        root.0,
     );
     put(report, counted, w)
 }
 
 // ---- details
 
-// Detail d over the members of root r, if any of them declares it: the columns filled, or an error.
-fn detail<'a>(
+// The Rust's `unify_real` and `unify_int`: a detail over the members of a root, if any of them declares it. The
+// table is filled, or there is an error.
+fn unify_detail<'a>(
     image: &'a [u8],
     layout: Layout,
     texts: &'a [usize],
-    s: usize,
-    ks: &[u8],
-    ms: &mut [u8],
-    ns: &mut [u64],
+    slot_count: usize,
+    table: &mut [u64],
     members: &[usize],
-    r: usize,
+    root: ConnectorId,
     found: Seen,
-    d: usize,
+    detail: usize,
     report: &mut [u8],
     counted: Counted,
 ) -> Counted
-    requires { ⌜ Ready (now image) layout (now texts) s (now ks) (now ms) (now ns) (now members) × (r < layout .connectors .count) × (d ≤ displayDetail) × (total counted ≤ 3000000)
-        × Unseen d s (now ks) (now ms) (now ns) (now members) (found .real) (found .integer) ⌝ }
-    ensures { λ c. ⌜ Detailed (modelOf (now (image .entry))) r d s (now (ks .entry)) (now (members .entry)) (now (ms .entry)) (now (ns .entry)) (now (ms .exit)) (now (ns .exit))
+    requires { ⌜ Ready (now image) layout (now texts) «slot_count» (now table) (now members) × (root .0 < layout .connectors .count) × (detail ≤ displayDetail) × (total counted ≤ 3000000)
+        × Unseen detail «slot_count» (now table) (now members) (found .real) (found .integer) ⌝ }
+    ensures { λ c. ⌜ Detailed (modelOf (now (image .entry))) (root .0) detail «slot_count» (now (members .entry)) (now (table .entry)) (now (table .exit))
         (now (report .entry)) counted (now (report .exit)) c ⌝ }
 {
-    if !is_seen(found, d) {
+    if !is_seen(found, detail) {
         return counted;
     }
-    if settle(image, layout, texts, s, ks, ms, ns, members, d) {
-        return tell_conflict(image, layout, r, d, report, counted);
+    if decide_and_apply(image, layout, texts, slot_count, table, members, detail) {
+        return tell_conflict(image, layout, root, detail, report, counted);
     }
     counted
 }
@@ -138,36 +138,32 @@ fn details<'a>(
     image: &'a [u8],
     layout: Layout,
     texts: &'a [usize],
-    s: usize,
-    ks: &[u8],
-    ms: &mut [u8],
-    ns: &mut [u64],
+    slot_count: usize,
+    table: &mut [u64],
     members: &[usize],
-    r: usize,
+    root: ConnectorId,
     found: Seen,
     report: &mut [u8],
     counted: Counted,
 ) -> Counted
-    requires { ⌜ Ready (now image) layout (now texts) s (now ks) (now ms) (now ns) (now members) × (r < layout .connectors .count) × (total counted ≤ 2000000)
-        × Sees (now ks) (now ms) (now members) (found .real) (found .integer) (length (now members)) ⌝ }
-    ensures { λ c. ⌜ Details (modelOf (now (image .entry))) r s (now (ks .entry)) (now (members .entry)) (now (ms .entry)) (now (ns .entry)) (now (ms .exit)) (now (ns .exit))
+    requires { ⌜ Ready (now image) layout (now texts) «slot_count» (now table) (now members) × (root .0 < layout .connectors .count) × (total counted ≤ 2000000)
+        × Sees (view «slot_count» (now table)) (now members) (found .real) (found .integer) (length (now members)) ⌝ }
+    ensures { λ c. ⌜ Details (modelOf (now (image .entry))) (root .0) «slot_count» (now (members .entry)) (now (table .entry)) (now (table .exit))
         (now (report .entry)) counted (now (report .exit)) c unifiedDetails
-        × Ready (now (image .entry)) layout (now (texts .entry)) s (now (ks .entry)) (now (ms .exit)) (now (ns .exit)) (now (members .entry)) × (total c ≤ 3000000)
-        × Unseen displayDetail s (now (ks .entry)) (now (ms .exit)) (now (ns .exit)) (now (members .entry)) (found .real) (found .integer) ⌝ }
+        × Ready (now (image .entry)) layout (now (texts .entry)) «slot_count» (now (table .exit)) (now (members .entry)) × (total c ≤ 3000000)
+        × Unseen displayDetail «slot_count» (now (table .exit)) (now (members .entry)) (found .real) (found .integer) ⌝ }
 {
     let mut c = counted;
     let mut i = 0;
     while i < UNIFIED_DETAILS {
-        c = detail(
+        c = unify_detail(
             image,
             layout,
             texts,
-            s,
-            ks,
-            ms,
-            ns,
+            slot_count,
+            table,
             members,
-            r,
+            root,
             found,
             i + 1,
             report,
@@ -179,29 +175,35 @@ fn details<'a>(
 }
 
 // Detail 7, if any member declares it: a warning where display units differ.
-fn display<'a>(
+fn warn_display_unit_divergence<'a>(
     image: &'a [u8],
     layout: Layout,
     texts: &'a [usize],
-    s: usize,
-    ks: &[u8],
-    ms: &[u8],
-    ns: &[u64],
+    slot_count: usize,
+    table: &[u64],
     members: &[usize],
-    r: usize,
+    root: ConnectorId,
     found: Seen,
     report: &mut [u8],
     counted: Counted,
 ) -> Counted
-    requires { ⌜ Ready (now image) layout (now texts) s (now ks) (now ms) (now ns) (now members) × (r < layout .connectors .count) × (total counted ≤ 3000000)
-        × Unseen displayDetail s (now ks) (now ms) (now ns) (now members) (found .real) (found .integer) ⌝ }
-    ensures { λ c. ⌜ Displayed (modelOf (now (image .entry))) r s (now (ks .entry)) (now (members .entry)) (now (ms .entry)) (now (ns .entry)) (now (report .entry)) counted (now (report .exit)) c ⌝ }
+    requires { ⌜ Ready (now image) layout (now texts) «slot_count» (now table) (now members) × (root .0 < layout .connectors .count) × (total counted ≤ 3000000)
+        × Unseen displayDetail «slot_count» (now table) (now members) (found .real) (found .integer) ⌝ }
+    ensures { λ c. ⌜ Displayed (modelOf (now (image .entry))) (root .0) «slot_count» (now (members .entry)) (now (table .entry)) (now (report .entry)) counted (now (report .exit)) c ⌝ }
 {
     if !is_seen(found, DISPLAY_DETAIL) {
         return counted;
     }
-    if diverges(image, layout, texts, s, ks, ms, ns, members, DISPLAY_DETAIL) {
-        return tell_divergence(image, layout, r, report, counted);
+    if diverges(
+        image,
+        layout,
+        texts,
+        slot_count,
+        table,
+        members,
+        DISPLAY_DETAIL,
+    ) {
+        return tell_divergence(image, layout, root, report, counted);
     }
     counted
 }
@@ -211,45 +213,39 @@ fn all_details<'a>(
     image: &'a [u8],
     layout: Layout,
     texts: &'a [usize],
-    s: usize,
-    ks: &[u8],
-    ms: &mut [u8],
-    ns: &mut [u64],
+    slot_count: usize,
+    table: &mut [u64],
     members: &[usize],
-    r: usize,
+    root: ConnectorId,
     found: Seen,
     report: &mut [u8],
     counted: Counted,
 ) -> Counted
-    requires { ⌜ Ready (now image) layout (now texts) s (now ks) (now ms) (now ns) (now members) × (r < layout .connectors .count) × (total counted ≤ 2000000)
-        × Sees (now ks) (now ms) (now members) (found .real) (found .integer) (length (now members)) ⌝ }
-    ensures { λ c. ⌜ Clustered (modelOf (now (image .entry))) r s (now (ks .entry)) (now (members .entry)) (now (ms .entry)) (now (ns .entry)) (now (ms .exit)) (now (ns .exit))
+    requires { ⌜ Ready (now image) layout (now texts) «slot_count» (now table) (now members) × (root .0 < layout .connectors .count) × (total counted ≤ 2000000)
+        × Sees (view «slot_count» (now table)) (now members) (found .real) (found .integer) (length (now members)) ⌝ }
+    ensures { λ c. ⌜ Clustered (modelOf (now (image .entry))) (root .0) «slot_count» (now (members .entry)) (now (table .entry)) (now (table .exit))
         (now (report .entry)) counted (now (report .exit)) c ⌝ }
 {
     let c = details(
         image,
         layout,
         texts,
-        s,
-        ks,
-        ms,
-        ns,
+        slot_count,
+        table,
         members,
-        r,
+        root,
         found,
         report,
         counted,
     );
-    display(
+    warn_display_unit_divergence(
         image,
         layout,
         texts,
-        s,
-        ks,
-        ms,
-        ns,
+        slot_count,
+        table,
         members,
-        r,
+        root,
         found,
         report,
         c,
@@ -261,20 +257,18 @@ pub fn cluster<'a>(
     image: &'a [u8],
     layout: Layout,
     texts: &'a [usize],
-    s: usize,
-    ks: &[u8],
-    ms: &mut [u8],
-    ns: &mut [u64],
+    slot_count: usize,
+    table: &mut [u64],
     members: &[usize],
-    r: usize,
+    root: ConnectorId,
     report: &mut [u8],
     counted: Counted,
 ) -> Counted
-    requires { ⌜ Ready (now image) layout (now texts) s (now ks) (now ms) (now ns) (now members) × (r < layout .connectors .count) × (total counted ≤ 2000000) ⌝ }
-    ensures { λ c. ⌜ Clustered (modelOf (now (image .entry))) r s (now (ks .entry)) (now (members .entry)) (now (ms .entry)) (now (ns .entry)) (now (ms .exit)) (now (ns .exit))
+    requires { ⌜ Ready (now image) layout (now texts) «slot_count» (now table) (now members) × (root .0 < layout .connectors .count) × (total counted ≤ 2000000) ⌝ }
+    ensures { λ c. ⌜ Clustered (modelOf (now (image .entry))) (root .0) «slot_count» (now (members .entry)) (now (table .entry)) (now (table .exit))
         (now (report .entry)) counted (now (report .exit)) c ⌝ }
 {
-    let found = seen_in(s, ks, ms, members);
+    let found = seen_in(slot_count, table, members);
     if sees_nothing(found) {
         return counted;
     }
@@ -282,12 +276,10 @@ pub fn cluster<'a>(
         image,
         layout,
         texts,
-        s,
-        ks,
-        ms,
-        ns,
+        slot_count,
+        table,
         members,
-        r,
+        root,
         found,
         report,
         counted,

@@ -15,8 +15,8 @@ use Rattle.numbers.specs.Bytes.{bit}
 use Rattle.oce_model.specs.Format.{realKind, integerKind}
 use Rattle.unify.specs.Slots.{Slots, slot, kindOf, bitOf, value}
 use Rattle.unify.specs.Unify.{declared}
-use Rattle.unify_slots.specs.Columns.{view, declares, Inside}
-use Rattle.unify_slots.proofs.Laws.{value-view}
+use Rattle.unify_slots.specs.Table.{declares, Inside}
+use Rattle.unify_slots.proofs.Laws.{value-declares}
 use Rattle.unify_seen.specs.Seen.{Holds, TakenIn, Sees, shows}
 
 -- ---- bits
@@ -48,31 +48,35 @@ module _ (k kind marks b : ℕ) where
   pub taken-marks : TakenIn k kind marks b (bitOr b marks)
   taken-marks = record { old = λ p h. or-clear b marks p h .0; new = λ p f h. or-clear b marks p h .1 }
 
-  pub taken-none : {x : ℕ} → x ≡ kind → (x ≡ k → ⊥) → TakenIn k kind marks b b
-  taken-none ex n = record { old = λ p h. h; new = λ p f h. absurd (n (ex ∙ f)) }
+  pub taken-none : (kind ≡ k → ⊥) → TakenIn k kind marks b b
+  taken-none n = record { old = λ p h. h; new = λ p f h. absurd (n f) }
 
 -- ---- all members
 
-holds-turn : {k : ℕ} {ks ms js : List ℕ} {b n b′ : ℕ} → Holds k ks ms js b n → TakenIn k (getD ks (getD js n 0) 0) (getD ms (getD js n 0) 0) b b′ → Holds k ks ms js b′ (n + 1)
-holds-turn {k} {ks} {ms} {js} {b} {n} {b′} v t = record { each = λ i p h. arm i p h (ℕ-discrete i n) }
-  where
-    arm : (i p : ℕ) → i < n + 1 → Dec (i ≡ n) → getD ks (getD js i 0) 0 ≡ k → bit b′ p ≡ false → bit (getD ms (getD js i 0) 0) p ≡ false
-    arm i p h (yes e) f c = rw e (t .new p (rw e at f) c)
-    arm i p h (no m) f c = v .each i p (omega arith) f (t .old p c)
+module _ {σ : Slots} {js : List ℕ} where
+  holds-turn : {k b n b′ j kind marks : ℕ} → Holds k σ js b n → j ≡ getD js n 0 → kind ≡ slot σ j .kind → marks ≡ slot σ j .marks → TakenIn k kind marks b b′ → Holds k σ js b′ (n + 1)
+  holds-turn {k} {b} {n} {b′} {j} {kind} {marks} v ej ek em t = record { each = λ i p h. arm i p h (ℕ-discrete i n) }
+    where
+      arm : (i p : ℕ) → i < n + 1 → Dec (i ≡ n) → slot σ (getD js i 0) .kind ≡ k → bit b′ p ≡ false → bit (slot σ (getD js i 0) .marks) p ≡ false
+      arm i p h (yes e) f c =
+          let q : j ≡ getD js i 0 = cc in
+          let g : kind ≡ k = cc in
+          let o : bit marks p ≡ false = t .new p g c in
+          cc
+      arm i p h (no m) f c = v .each i p (omega arith) f (t .old p c)
 
-module _ {ks ms js : List ℕ} where
-  pub sees-start : {real integer : ℕ} → Sees ks ms js real integer 0
+  pub sees-start : {real integer : ℕ} → Sees σ js real integer 0
   sees-start = record { within = omega arith; reals = record { each = λ i p h. absurd (omega arith) }; integers = record { each = λ i p h. absurd (omega arith) } }
 
-  pub sees-turn : {real integer n real′ integer′ : ℕ} → Sees ks ms js real integer n → TakenIn realKind (getD ks (getD js n 0) 0) (getD ms (getD js n 0) 0) real real′
-      → TakenIn integerKind (getD ks (getD js n 0) 0) (getD ms (getD js n 0) 0) integer integer′ → n < length js → Sees ks ms js real′ integer′ (n + 1)
-  sees-turn v t u h = record { within = omega arith; reals = holds-turn (v .reals) t; integers = holds-turn (v .integers) u }
+  pub sees-turn : {real integer n real′ integer′ j kind marks : ℕ} → Sees σ js real integer n → j ≡ getD js n 0 → kind ≡ slot σ j .kind → marks ≡ slot σ j .marks
+      → TakenIn realKind kind marks real real′ → TakenIn integerKind kind marks integer integer′ → n < length js → Sees σ js real′ integer′ (n + 1)
+  sees-turn v ej ek em t u h = record { within = omega arith; reals = holds-turn (v .reals) ej ek em t; integers = holds-turn (v .integers) ej ek em u }
 
-  pub sees-all : {real integer n : ℕ} → Sees ks ms js real integer n → length js ≤ n → Sees ks ms js real integer (length js)
+  pub sees-all : {real integer n : ℕ} → Sees σ js real integer n → length js ≤ n → Sees σ js real integer (length js)
   sees-all {n = n} v h = let e : length js ≡ n = omega (arith, v .within) in rw e v
 
-pub member-inside : (s : ℕ) (js : List ℕ) (i n : ℕ) → Inside s js → i < length js → s ≤ n → getD js i 0 < n
-member-inside s js i n v h l = omega (arith, v .each i h)
+pub member-inside : (n : ℕ) (js : List ℕ) (i : ℕ) {j : ℕ} → Inside n js → i < length js → j ≡ getD js i 0 → j < n
+member-inside n js i v h e = rw e (v .each i h)
 
 -- ---- a detail
 
@@ -110,25 +114,27 @@ unfolding declared
 none-declared d σ [] h = refl
 none-declared d σ (j ∷ js) h = rw (h 0 (omega arith)) (none-declared d σ js (λ i l. h (suc i) (omega arith)))
 
--- what shows in neither byte no member declares
-module _ {ks ms js : List ℕ} {real integer : ℕ} (v : Sees ks ms js real integer (length js)) where
-  unmarked : (d : ℕ) → shows d real integer ≡ false → (i : ℕ) → i < length js → getD ks (getD js i 0) 0 ≡ kindOf d → bit (getD ms (getD js i 0) 0) (bitOf d) ≡ false
+-- what shows in neither kind's marks no member declares
+module _ {σ : Slots} {js : List ℕ} {real integer : ℕ} (v : Sees σ js real integer (length js)) (d : ℕ) (e : shows d real integer ≡ false) where
+  unmarked : (i : ℕ) → i < length js → slot σ (getD js i 0) .kind ≡ kindOf d → bit (slot σ (getD js i 0) .marks) (bitOf d) ≡ false
   unfolding shows
-  unmarked d e i h f = arm (eqb (kindOf d) realKind) refl e
+  unmarked i h f = arm (eqb (kindOf d) realKind) refl e
     where
-      arm : (b : Bool) → eqb (kindOf d) realKind ≡ b → bit (cond b real integer) (bitOf d) ≡ false → bit (getD ms (getD js i 0) 0) (bitOf d) ≡ false
+      arm : (b : Bool) → eqb (kindOf d) realKind ≡ b → bit (cond b real integer) (bitOf d) ≡ false → bit (slot σ (getD js i 0) .marks) (bitOf d) ≡ false
       arm true q c = v .reals .each i (bitOf d) h (f ∙ eqb-true _ _ q) c
       arm false q c =
           let n : kindOf d ≡ realKind → ⊥ = eqb-false _ _ q in
           let k : kindOf d ≡ integerKind = omega (arith, kind-two d) in
           v .integers .each i (bitOf d) h (f ∙ k) c
 
-  pub undeclared : (d s : ℕ) (ns : List ℕ) → Inside s js → shows d real integer ≡ false → declared d (view s ks ms ns) js ≡ []
-  undeclared d s ns w e =
-      none-declared d (view s ks ms ns) js
-      (λ i h. value-view s ks ms ns (getD js i 0) d (w .each i h) ∙ rw (declares-false d (getD ks (getD js i 0) 0) (getD ms (getD js i 0) 0) (unmarked d e i h)))
+  pub undeclared : declared d σ js ≡ []
+  undeclared =
+      none-declared d σ js
+      (λ i h.
+      let a = slot σ (getD js i 0) in
+      value-declares d a ∙ rw (declares-false d (a .kind) (a .marks) (unmarked i h)))
 
--- nothing is set in bytes that are 0
+-- nothing is set in marks that are 0
 pub nothing-shows : (real integer : ℕ) {t : Bool} → t ≡ (eqb real 0 && eqb integer 0) → t ≡ true → (d : ℕ) → shows d real integer ≡ false
 unfolding shows
 nothing-shows real integer et e d = arm (eqb real 0) refl (eqb integer 0) refl (sym et ∙ e) (eqb (kindOf d) realKind)

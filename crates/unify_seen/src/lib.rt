@@ -1,47 +1,49 @@
-// What the members of a cluster declare, in two bytes: a detail that shows in neither has nothing to settle.
-use numbers::wide;
+// What the members of a cluster declare, by the marks of all of a kind: a detail that shows in neither
+// kind's has nothing to settle.
 use oce_model::INTEGER_KIND;
 use oce_model::REAL_KIND;
 use unify_slots::bit_of;
 use unify_slots::is_marked;
+use unify_slots::kind_at;
 use unify_slots::kind_of;
+use unify_slots::marks_at;
 ghost use mathlib.Core.Path.{_≡_};
 ghost use mathlib.Core.Bool.{_&&_};
 ghost use Prim.Native.Nat.{_≤_};
 ghost use lib.Dec.{eqb};
 ghost use lib.ListN.{length};
 ghost use Rattle.unify.specs.Slots.{displayDetail};
-ghost use Rattle.unify_slots.specs.Columns.{Inside};
+ghost use Rattle.unify_slots.specs.Table.{view, Room, Inside};
 ghost use Rattle.unify_seen.specs.Seen.{TakenIn, Sees, shows};
 
-// The marks of all Real members in one byte, those of all Integer members in another.
+// The marks of all Real members together, and those of all Integer members.
 pub struct Seen {
-    pub real: u8,
-    pub integer: u8,
+    pub real: u64,
+    pub integer: u64,
 }
 
-// The byte `had` with the marks of one member more, if that is of the wanted kind.
-fn take_in(had: u8, wanted: usize, kind: u8, marks: u8) -> u8
+// The marks `had` with those of one member more, if that is of the wanted kind.
+fn take_in(had: u64, wanted: usize, kind: usize, marks: u64) -> u64
     ensures { λ r. ⌜ TakenIn wanted kind marks had r ⌝ }
 {
-    if wide(kind) == wanted {
+    if kind == wanted {
         return had | marks;
     }
     had
 }
 
 // What the members declare.
-pub fn seen_in(s: usize, ks: &[u8], ms: &[u8], members: &[usize]) -> Seen
-    requires { ⌜ (s ≤ length (now ks)) × (s ≤ length (now ms)) × Inside s (now members) ⌝ }
-    ensures { λ r. ⌜ Sees (now (ks .entry)) (now (ms .entry)) (now (members .entry)) (r .real) (r .integer) (length (now (members .entry))) ⌝ }
+pub fn seen_in(slot_count: usize, table: &[u64], members: &[usize]) -> Seen
+    requires { ⌜ Room «slot_count» (now table) × Inside «slot_count» (now members) ⌝ }
+    ensures { λ r. ⌜ Sees (view «slot_count» (now (table .entry))) (now (members .entry)) (r .real) (r .integer) (length (now (members .entry))) ⌝ }
 {
-    let mut real = 0u8;
-    let mut integer = 0u8;
+    let mut real = 0u64;
+    let mut integer = 0u64;
     let mut i = 0;
     while i < members.len() {
         let j = members[i];
-        let kind = ks[j];
-        let marks = ms[j];
+        let kind = kind_at(slot_count, table, j);
+        let marks = marks_at(slot_count, table, j);
         real = take_in(real, REAL_KIND, kind, marks);
         integer = take_in(integer, INTEGER_KIND, kind, marks);
         i += 1;
@@ -49,15 +51,15 @@ pub fn seen_in(s: usize, ks: &[u8], ms: &[u8], members: &[usize]) -> Seen
     Seen { real, integer }
 }
 
-// Some member may declare detail d.
-pub fn is_seen(seen: Seen, d: usize) -> bool
-    requires { ⌜ d ≤ displayDetail ⌝ }
-    ensures { λ r. ⌜ r ≡ shows d (seen .real) (seen .integer) ⌝ }
+// Some member may declare a detail.
+pub fn is_seen(seen: Seen, detail: usize) -> bool
+    requires { ⌜ detail ≤ displayDetail ⌝ }
+    ensures { λ r. ⌜ r ≡ shows detail (seen .real) (seen .integer) ⌝ }
 {
-    if kind_of(d) == REAL_KIND {
-        return is_marked(seen.real, bit_of(d));
+    if kind_of(detail) == REAL_KIND {
+        return is_marked(seen.real, bit_of(detail));
     }
-    is_marked(seen.integer, bit_of(d))
+    is_marked(seen.integer, bit_of(detail))
 }
 
 // No member declares anything.

@@ -11,15 +11,16 @@ use lib.Seq.{drop-cons}
 use lib.Dec.{eqb}
 use borrow.Author.Tests.{lt-ltb, le-ltb}
 use Rattle.base.specs.Lists.{all, same}
+use Rattle.numbers.specs.Bytes.{wordRange}
 use Rattle.oce_model.specs.Format.{minBit}
 use Rattle.oce_model.specs.Model.{Model, text}
 use Rattle.image_accept.specs.declared.Layout.{Layout}
 use Rattle.unify.specs.Slots.{Slots, slot, bitOf, value, put, key, agree}
 use Rattle.unify.specs.Unify.{cons?, declared, putAll, settle, fill, conflict}
-use Rattle.unify_slots.specs.Columns.{view, Room, Inside, Declared, PutOne}
+use Rattle.unify_slots.specs.Table.{view, Room, Inside, Declared, PutOne}
 use Rattle.unify_settle.specs.Settle.{Ready, FirstOf, Agrees, PutAll, Settled}
 
-pub ready-fits : {image : List ℕ} {layout : Layout} {texts : List ℕ} {s : ℕ} {ks ms ns js : List ℕ} {at : ℕ} → Ready image layout texts s ks ms ns js → at < length js → at + 1 < 18446744073709551616
+pub ready-fits : {image : List ℕ} {layout : Layout} {texts : List ℕ} {n : ℕ} {table js : List ℕ} {at : ℕ} → Ready image layout texts n table js → at < length js → at + 1 < 18446744073709551616
 ready-fits y h = omega (arith, y .few)
 
 -- ---- agreement
@@ -39,8 +40,8 @@ module _ (m : Model) (d u v : ℕ) {p : ℕ} (ep : p ≡ bitOf d) where
 
 -- ---- members
 
-pub inside-at : (s : ℕ) (js : List ℕ) (i : ℕ) {j : ℕ} → Inside s js → i < length js → j ≡ getD js i 0 → j < s
-inside-at s js i v h e = rw e (v .each i h)
+pub inside-at : (n : ℕ) (js : List ℕ) (i : ℕ) {j : ℕ} → Inside n js → i < length js → j ≡ getD js i 0 → j < n
+inside-at n js i v h e = rw e (v .each i h)
 
 rest : (js : List ℕ) (i : ℕ) → i < length js → drop i js ≡ getD js i 0 ∷ drop (i + 1) js
 rest js i h = rw add-one (drop-cons js i 0 h)
@@ -63,23 +64,23 @@ pub record Seek (d : ℕ) (σ : Slots) (js : List ℕ) (i : ℕ) : Type 0 where
   pub within : i ≤ length js
   pub same : declared d σ js ≡ declared d σ (drop i js)
 
-module _ {d : ℕ} (s : ℕ) (ks ms ns : List ℕ) {js : List ℕ} where
-  pub seek-start : Seek d (view s ks ms ns) js 0
+module _ {d : ℕ} (n : ℕ) (table : List ℕ) {js : List ℕ} where
+  pub seek-start : Seek d (view n table) js 0
   seek-start = record { within = omega arith; same = refl }
 
-  pub seek-turn : {i j v : ℕ} {set : Bool} → i < length js → j ≡ getD js i 0 → Declared d s ks ms ns j set v → set ≡ false → Seek d (view s ks ms ns) js i → Seek d (view s ks ms ns) js (i + 1)
-  seek-turn {i} h ej g e w = record { within = omega arith; same = w .same ∙ declared-rest d (view s ks ms ns) js i h ∙ rw (← ej, g .is, e) }
+  pub seek-turn : {i j v : ℕ} {set : Bool} → i < length js → j ≡ getD js i 0 → Declared d n table j set v → set ≡ false → Seek d (view n table) js i → Seek d (view n table) js (i + 1)
+  seek-turn {i} h ej g e w = record { within = omega arith; same = w .same ∙ declared-rest d (view n table) js i h ∙ rw (← ej, g .is, e) }
 
-  pub seek-found : {i j v : ℕ} {set : Bool} → i < length js → j ≡ getD js i 0 → Declared d s ks ms ns j set v → set ≡ true → Seek d (view s ks ms ns) js i → FirstOf d (view s ks ms ns) js i v
+  pub seek-found : {i j v : ℕ} {set : Bool} → i < length js → j ≡ getD js i 0 → Declared d n table j set v → set ≡ true → Seek d (view n table) js i → FirstOf d (view n table) js i v
   seek-found {i} h ej g e w = record {
-    found = λ _. w .same ∙ declared-rest d (view s ks ms ns) js i h ∙ rw (← ej, g .is, e);
+    found = λ _. w .same ∙ declared-rest d (view n table) js i h ∙ rw (← ej, g .is, e);
     missing = λ l. absurd (omega arith);
   }
 
-  pub seek-none : {i v : ℕ} → length js ≤ i → Seek d (view s ks ms ns) js i → FirstOf d (view s ks ms ns) js i v
+  pub seek-none : {i v : ℕ} → length js ≤ i → Seek d (view n table) js i → FirstOf d (view n table) js i v
   seek-none h w = record {
     found = λ l. absurd (omega arith);
-    missing = λ l. w .same ∙ rw (drop-of-length-le js h) (declared-none d (view s ks ms ns));
+    missing = λ l. w .same ∙ rw (drop-of-length-le js h) (declared-none d (view n table));
   }
 
 -- ---- agreement with the first
@@ -101,22 +102,22 @@ all-cons f (some v) l = arm (f v)
     arm true = refl
     arm false = refl
 
-module _ (m : Model) (d v s : ℕ) (ks ms ns : List ℕ) (j : ℕ) {u : ℕ} {is-set : Bool} (g : Declared d s ks ms ns j is-set u) where
-  pub agrees-none : is-set ≡ false → Agrees m d v (view s ks ms ns) j true
+module _ (m : Model) (d v n : ℕ) (table : List ℕ) (j : ℕ) {u : ℕ} {is-set : Bool} (g : Declared d n table j is-set u) where
+  pub agrees-none : is-set ≡ false → Agrees m d v (view n table) j true
   unfolding all
   agrees-none e = record { told = rw (g .is, e) }
 
-  pub agrees-some : {r : Bool} → r ≡ agree m d v u → is-set ≡ true → Agrees m d v (view s ks ms ns) j r
+  pub agrees-some : {r : Bool} → r ≡ agree m d v u → is-set ≡ true → Agrees m d v (view n table) j r
   agrees-some er e = record { told = er ∙ rw (g .is, e) (sym (all-one (agree m d v) u)) }
 
 -- members from a up to i agree with v
 pub record Alike (m : Model) (d v : ℕ) (σ : Slots) (js : List ℕ) (a i : ℕ) : Type 0 where
   pub within : i ≤ length js
-  pub few : length js < 4294967296
+  pub few : length js < wordRange
   pub same : all (agree m d v) (declared d σ (drop a js)) ≡ all (agree m d v) (declared d σ (drop i js))
 
 module _ (m : Model) (d v : ℕ) (σ : Slots) (js : List ℕ) (a : ℕ) where
-  pub alike-start : length js < 4294967296 → a ≤ length js → Alike m d v σ js a a
+  pub alike-start : length js < wordRange → a ≤ length js → Alike m d v σ js a a
   alike-start l h = record { within = h; few = l; same = refl }
 
   alike-next : (i : ℕ) {j : ℕ} {r : Bool} → i < length js → j ≡ getD js i 0 → Agrees m d v σ j r → Alike m d v σ js a i
@@ -145,30 +146,28 @@ putAll-none : (d v : ℕ) (σ : Slots) → putAll d v [] σ ≡ σ
 unfolding putAll
 putAll-none d v σ = refl
 
--- the columns hold what members below i have taken
-pub record Puts (d v s : ℕ) (ks js ms₀ ns₀ ms ns : List ℕ) (i : ℕ) : Type 0 where
+-- the table holds what members below i have taken
+pub record Puts (d v n : ℕ) (js table₀ table : List ℕ) (i : ℕ) : Type 0 where
   pub within : i ≤ length js
-  pub room : Room s ks ms ns
-  pub marks : length ms ≡ length ms₀
-  pub nums : length ns ≡ length ns₀
-  pub same : putAll d v js (view s ks ms₀ ns₀) ≡ putAll d v (drop i js) (view s ks ms ns)
+  pub room : Room n table
+  pub long : length table ≡ length table₀
+  pub same : putAll d v js (view n table₀) ≡ putAll d v (drop i js) (view n table)
 
-module _ {d v s : ℕ} {ks js ms₀ ns₀ : List ℕ} where
-  pub puts-start : Room s ks ms₀ ns₀ → Puts d v s ks js ms₀ ns₀ ms₀ ns₀ 0
-  puts-start room = record { within = omega arith; room = room; marks = refl; nums = refl; same = refl }
+module _ {d v n : ℕ} {js table₀ : List ℕ} where
+  pub puts-start : Room n table₀ → Puts d v n js table₀ table₀ 0
+  puts-start room = record { within = omega arith; room = room; long = refl; same = refl }
 
-  pub puts-turn : {ms ns ms′ ns′ : List ℕ} {i : ℕ} → i < length js → Puts d v s ks js ms₀ ns₀ ms ns i → PutOne d v s ks (getD js i 0) ms ns ms′ ns′
-      → length ms′ ≡ length ms → length ns′ ≡ length ns → Puts d v s ks js ms₀ ns₀ ms′ ns′ (i + 1)
-  puts-turn {ms} {ns} {ms′} {ns′} {i} h w e lm ln = record {
+  pub puts-turn : {table table′ : List ℕ} {i : ℕ} → i < length js → Puts d v n js table₀ table i → PutOne d v n (getD js i 0) table table′ → length table′ ≡ length table
+      → Puts d v n js table₀ table′ (i + 1)
+  puts-turn {table} {table′} {i} h w e l = record {
     within = omega arith;
-    room = record { kinds = w .room .kinds; marks = omega (arith, w .room .marks); nums = omega (arith, w .room .nums) };
-    marks = lm ∙ w .marks;
-    nums = ln ∙ w .nums;
-    same = w .same ∙ rw (rest js i h, e .slots) (putAll-cons d v (getD js i 0) (drop (i + 1) js) (view s ks ms ns));
+    room = record { fits = omega (arith, w .room .fits) };
+    long = l ∙ w .long;
+    same = w .same ∙ rw (rest js i h, e .slots) (putAll-cons d v (getD js i 0) (drop (i + 1) js) (view n table));
   }
 
-  pub puts-done : {ms ns : List ℕ} {i : ℕ} → length js ≤ i → Puts d v s ks js ms₀ ns₀ ms ns i → PutAll d v s ks js ms₀ ns₀ ms ns
-  puts-done {ms} {ns} h w = record { slots = sym (w .same ∙ rw (drop-of-length-le js h) (putAll-none d v (view s ks ms ns))) }
+  pub puts-done : {table : List ℕ} {i : ℕ} → length js ≤ i → Puts d v n js table₀ table i → PutAll d v n js table₀ table
+  puts-done {table} h w = record { slots = sym (w .same ∙ rw (drop-of-length-le js h) (putAll-none d v (view n table))) }
 
 -- ---- the whole detail
 
@@ -188,27 +187,27 @@ conflict-cons : (m : Model) (d v : ℕ) (vs : List ℕ) → conflict m d (v ∷ 
 unfolding conflict
 conflict-cons m d v vs = refl
 
-module _ {m : Model} {d s : ℕ} {ks js ms ns : List ℕ} {at v : ℕ} (f : FirstOf d (view s ks ms ns) js at v) where
-  pub settled-none : length js ≤ at → Settled m d s ks js ms ns ms ns false
+module _ {m : Model} {d n : ℕ} {js table : List ℕ} {at v : ℕ} (f : FirstOf d (view n table) js at v) where
+  pub settled-none : length js ≤ at → Settled m d n js table table false
   unfolding fill
   settled-none h = record {
-    slots = sym (rw (f .missing h) (settle-none m d js (view s ks ms ns)));
+    slots = sym (rw (f .missing h) (settle-none m d js (view n table)));
     told = sym (rw (f .missing h) (conflict-none m d));
   }
 
-  pub settled-agree : {ms′ ns′ : List ℕ} {r : Bool} → at < length js → r ≡ all (agree m d v) (declared d (view s ks ms ns) (drop (at + 1) js)) → r ≡ true
-      → PutAll d v s ks js ms ns ms′ ns′ → Settled m d s ks js ms ns ms′ ns′ false
+  pub settled-agree : {table′ : List ℕ} {r : Bool} → at < length js → r ≡ all (agree m d v) (declared d (view n table) (drop (at + 1) js)) → r ≡ true
+      → PutAll d v n js table table′ → Settled m d n js table table′ false
   unfolding fill
   settled-agree h er e p = record {
-    slots = p .slots ∙ sym (rw (f .found h) (settle-cons m d v _ js (view s ks ms ns) ∙ rw (← er, e)));
+    slots = p .slots ∙ sym (rw (f .found h) (settle-cons m d v _ js (view n table) ∙ rw (← er, e)));
     told = sym (rw (f .found h) (conflict-cons m d v _ ∙ rw (← er, e)));
   }
 
-  pub settled-conflict : {r : Bool} → at < length js → r ≡ all (agree m d v) (declared d (view s ks ms ns) (drop (at + 1) js)) → r ≡ false
-      → Settled m d s ks js ms ns ms ns true
+  pub settled-conflict : {r : Bool} → at < length js → r ≡ all (agree m d v) (declared d (view n table) (drop (at + 1) js)) → r ≡ false
+      → Settled m d n js table table true
   unfolding fill
   settled-conflict h er e = record {
-    slots = sym (rw (f .found h) (settle-cons m d v _ js (view s ks ms ns) ∙ rw (← er, e)));
+    slots = sym (rw (f .found h) (settle-cons m d v _ js (view n table) ∙ rw (← er, e)));
     told = sym (rw (f .found h) (conflict-cons m d v _ ∙ rw (← er, e)));
   }
 

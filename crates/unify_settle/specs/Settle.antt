@@ -12,14 +12,14 @@ use Rattle.image_accept.specs.Layout.{Laid, Tabled}
 use Rattle.image_accept.specs.declared.Layout.{Layout}
 use Rattle.unify.specs.Slots.{Slots, slot, value, agree}
 use Rattle.unify.specs.Unify.{cons?, declared, putAll, fill, conflict}
-use Rattle.unify_slots.specs.Columns.{view, Room, Inside}
+use Rattle.unify_slots.specs.Table.{view, Room, Inside}
 
--- texts of an accepted image, and columns that have s slots, the members among them
-pub record Ready (image : List ℕ) (layout : Layout) (texts : List ℕ) (s : ℕ) (ks ms ns js : List ℕ) : Type 0 where
+-- texts of an accepted image, and a table that has n slots, the members among them
+pub record Ready (image : List ℕ) (layout : Layout) (texts : List ℕ) (n : ℕ) (table js : List ℕ) : Type 0 where
   pub laid : Laid image layout
   pub tabled : Tabled textTag image texts
-  pub room : Room s ks ms ns
-  pub inside : Inside s js
+  pub room : Room n table
+  pub inside : Inside n js
   pub few : length js < wordRange
 
 -- member `at` is the first that declares something, and v is what it declares; `at` is the number of members where none does
@@ -31,11 +31,11 @@ pub record FirstOf (d : ℕ) (σ : Slots) (js : List ℕ) (at v : ℕ) : Type 0 
 pub record Agrees (m : Model) (d v : ℕ) (σ : Slots) (j : ℕ) (r : Bool) : Type 0 where
   pub told : r ≡ all (agree m d v) (cons? (value d (slot σ j)) [])
 
--- the columns have taken v at each unset member
-pub record PutAll (d v s : ℕ) (ks js ms ns ms′ ns′ : List ℕ) : Type 0 where
-  pub slots : view s ks ms′ ns′ ≡ putAll d v js (view s ks ms ns)
+-- the table has taken v at each unset member
+pub record PutAll (d v n : ℕ) (js table table′ : List ℕ) : Type 0 where
+  pub slots : view n table′ ≡ putAll d v js (view n table)
 
--- the columns after one detail, and whether its members are in conflict
-pub record Settled (m : Model) (d s : ℕ) (ks js ms ns ms′ ns′ : List ℕ) (r : Bool) : Type 0 where
-  pub slots : view s ks ms′ ns′ ≡ fill m js d (view s ks ms ns)
-  pub told : r ≡ conflict m d (declared d (view s ks ms ns) js)
+-- the table after one detail, and whether its members are in conflict
+pub record Settled (m : Model) (d n : ℕ) (js table table′ : List ℕ) (r : Bool) : Type 0 where
+  pub slots : view n table′ ≡ fill m js d (view n table)
+  pub told : r ≡ conflict m d (declared d (view n table) js)

@@ -1,11 +1,11 @@
 // One detail of rule 6 over the members of one cluster: find the first declared value, ask whether all
 // agree with it, fill.
 use image_accept::Layout;
+use image_texts::same_text;
 use oce_model::MIN_BIT;
 use unify_slots::bit_of;
 use unify_slots::declared_at;
 use unify_slots::put_one;
-use image_texts::same_text;
 ghost use mathlib.Core.Path.{_≡_};
 ghost use Prim.Native.Nat.{_+_, _≤_, _<_};
 ghost use lib.ListN.{length, getD, drop};
@@ -15,7 +15,7 @@ ghost use Rattle.oce_model.specs.Model.{modelOf};
 ghost use Rattle.image_accept.specs.Layout.{Laid, Tabled};
 ghost use Rattle.unify.specs.Slots.{displayDetail, agree};
 ghost use Rattle.unify.specs.Unify.{declared, conflict};
-ghost use Rattle.unify_slots.specs.Columns.{view, Room, Inside, PutOne};
+ghost use Rattle.unify_slots.specs.Table.{view, Room, Inside, PutOne};
 ghost use Rattle.unify_settle.specs.Settle.{Ready, FirstOf, Agrees, PutAll, Settled};
 
 // The first member that declares something, and what it declares.
@@ -24,14 +24,14 @@ pub struct First {
     pub value: u64,
 }
 
-fn first_declared(s: usize, ks: &[u8], ms: &[u8], ns: &[u64], members: &[usize], d: usize) -> First
-    requires { ⌜ Room s (now ks) (now ms) (now ns) × Inside s (now members) × (d ≤ displayDetail) ⌝ }
-    ensures { λ r. ⌜ FirstOf d (view s (now (ks .entry)) (now (ms .entry)) (now (ns .entry))) (now (members .entry)) (r .at) (r .value) ⌝ }
+fn first_declared(slot_count: usize, table: &[u64], members: &[usize], detail: usize) -> First
+    requires { ⌜ Room «slot_count» (now table) × Inside «slot_count» (now members) × (detail ≤ displayDetail) ⌝ }
+    ensures { λ r. ⌜ FirstOf detail (view «slot_count» (now (table .entry))) (now (members .entry)) (r .at) (r .value) ⌝ }
 {
     let mut i = 0;
     while i < members.len() {
         let j = members[i];
-        let given = declared_at(s, ks, ms, ns, j, d);
+        let given = declared_at(slot_count, table, j, detail);
         if given.set {
             return First {
                 at: i,
@@ -44,35 +44,40 @@ fn first_declared(s: usize, ks: &[u8], ms: &[u8], ns: &[u64], members: &[usize],
 }
 
 // The Rust's `AttrVal::same`: texts by bytes, ends by their 64 bits.
-fn agrees<'a>(image: &'a [u8], layout: Layout, texts: &'a [usize], d: usize, u: u64, v: u64) -> bool
-    requires { ⌜ Laid (now image) layout × Tabled textTag (now image) (now texts) × (d ≤ displayDetail) ⌝ }
-    ensures { λ r. ⌜ r ≡ agree (modelOf (now (image .entry))) d u v ⌝ }
+fn agrees<'a>(
+    image: &'a [u8],
+    layout: Layout,
+    texts: &'a [usize],
+    detail: usize,
+    u: u64,
+    v: u64,
+) -> bool
+    requires { ⌜ Laid (now image) layout × Tabled textTag (now image) (now texts) × (detail ≤ displayDetail) ⌝ }
+    ensures { λ r. ⌜ r ≡ agree (modelOf (now (image .entry))) detail u v ⌝ }
 {
-    if bit_of(d) < MIN_BIT {
+    if bit_of(detail) < MIN_BIT {
         return same_text(image, layout, texts, u as usize, v as usize);
     }
     u == v
 }
 
-// Slot j declares nothing for detail d, or what agrees with v.
+// Slot j declares nothing for a detail, or what agrees with v.
 fn member_agrees<'a>(
     image: &'a [u8],
     layout: Layout,
     texts: &'a [usize],
-    s: usize,
-    ks: &[u8],
-    ms: &[u8],
-    ns: &[u64],
+    slot_count: usize,
+    table: &[u64],
     j: usize,
-    d: usize,
+    detail: usize,
     v: u64,
 ) -> bool
-    requires { ⌜ Laid (now image) layout × Tabled textTag (now image) (now texts) × Room s (now ks) (now ms) (now ns) × (j < s) × (d ≤ displayDetail) ⌝ }
-    ensures { λ r. ⌜ Agrees (modelOf (now (image .entry))) d v (view s (now (ks .entry)) (now (ms .entry)) (now (ns .entry))) j r ⌝ }
+    requires { ⌜ Laid (now image) layout × Tabled textTag (now image) (now texts) × Room «slot_count» (now table) × (j < «slot_count») × (detail ≤ displayDetail) ⌝ }
+    ensures { λ r. ⌜ Agrees (modelOf (now (image .entry))) detail v (view «slot_count» (now (table .entry))) j r ⌝ }
 {
-    let given = declared_at(s, ks, ms, ns, j, d);
+    let given = declared_at(slot_count, table, j, detail);
     if given.set {
-        return agrees(image, layout, texts, d, v, given.value);
+        return agrees(image, layout, texts, detail, v, given.value);
     }
     true
 }
@@ -82,22 +87,20 @@ fn all_agree<'a>(
     image: &'a [u8],
     layout: Layout,
     texts: &'a [usize],
-    s: usize,
-    ks: &[u8],
-    ms: &[u8],
-    ns: &[u64],
+    slot_count: usize,
+    table: &[u64],
     members: &[usize],
     from: usize,
-    d: usize,
+    detail: usize,
     v: u64,
 ) -> bool
-    requires { ⌜ Ready (now image) layout (now texts) s (now ks) (now ms) (now ns) (now members) × (from ≤ length (now members)) × (d ≤ displayDetail) ⌝ }
-    ensures { λ r. ⌜ r ≡ all (agree (modelOf (now (image .entry))) d v) (declared d (view s (now (ks .entry)) (now (ms .entry)) (now (ns .entry))) (drop from (now (members .entry)))) ⌝ }
+    requires { ⌜ Ready (now image) layout (now texts) «slot_count» (now table) (now members) × (from ≤ length (now members)) × (detail ≤ displayDetail) ⌝ }
+    ensures { λ r. ⌜ r ≡ all (agree (modelOf (now (image .entry))) detail v) (declared detail (view «slot_count» (now (table .entry))) (drop from (now (members .entry)))) ⌝ }
 {
     let mut i = from;
     while i < members.len() {
         let j = members[i];
-        if member_agrees(image, layout, texts, s, ks, ms, ns, j, d, v) {
+        if member_agrees(image, layout, texts, slot_count, table, j, detail, v) {
             i += 1;
         } else {
             return false;
@@ -108,84 +111,98 @@ fn all_agree<'a>(
 
 // Member i takes v, where it is of the kind and declares nothing.
 fn put_member(
-    s: usize,
-    ks: &[u8],
-    ms: &mut [u8],
-    ns: &mut [u64],
+    slot_count: usize,
+    table: &mut [u64],
     members: &[usize],
     i: usize,
-    d: usize,
+    detail: usize,
     v: u64,
 )
-    requires { ⌜ Room s (now ks) (now ms) (now ns) × Inside s (now members) × (i < length (now members)) × (d ≤ displayDetail) ⌝ }
-    ensures { λ _. ⌜ PutOne d v s (now (ks .entry)) (getD (now (members .entry)) i 0) (now (ms .entry)) (now (ns .entry)) (now (ms .exit)) (now (ns .exit)) ⌝ }
+    requires { ⌜ Room «slot_count» (now table) × Inside «slot_count» (now members) × (i < length (now members)) × (detail ≤ displayDetail) ⌝ }
+    ensures { λ _. ⌜ PutOne detail v «slot_count» (getD (now (members .entry)) i 0) (now (table .entry)) (now (table .exit)) ⌝ }
 {
     let j = members[i];
-    put_one(s, ks, ms, ns, j, d, v);
+    put_one(slot_count, table, j, detail, v);
 }
 
 // Each unset member takes v.
-fn put_all(s: usize, ks: &[u8], ms: &mut [u8], ns: &mut [u64], members: &[usize], d: usize, v: u64)
-    requires { ⌜ Room s (now ks) (now ms) (now ns) × Inside s (now members) × (d ≤ displayDetail) ⌝ }
-    ensures { λ _. ⌜ PutAll d v s (now (ks .entry)) (now (members .entry)) (now (ms .entry)) (now (ns .entry)) (now (ms .exit)) (now (ns .exit)) ⌝ }
+fn put_all(slot_count: usize, table: &mut [u64], members: &[usize], detail: usize, v: u64)
+    requires { ⌜ Room «slot_count» (now table) × Inside «slot_count» (now members) × (detail ≤ displayDetail) ⌝ }
+    ensures { λ _. ⌜ PutAll detail v «slot_count» (now (members .entry)) (now (table .entry)) (now (table .exit)) ⌝ }
 {
     let mut i = 0;
     while i < members.len() {
-        put_member(s, ks, ms, ns, members, i, d, v);
+        put_member(slot_count, table, members, i, detail, v);
         i += 1;
     }
 }
 
-// One detail over the members of a cluster; whether they are in conflict.
-pub fn settle<'a>(
+// The Rust's `decide_and_apply`: one detail over the members of a cluster; whether they are in conflict.
+pub fn decide_and_apply<'a>(
     image: &'a [u8],
     layout: Layout,
     texts: &'a [usize],
-    s: usize,
-    ks: &[u8],
-    ms: &mut [u8],
-    ns: &mut [u64],
+    slot_count: usize,
+    table: &mut [u64],
     members: &[usize],
-    d: usize,
+    detail: usize,
 ) -> bool
-    requires { ⌜ Ready (now image) layout (now texts) s (now ks) (now ms) (now ns) (now members) × (d ≤ displayDetail) ⌝ }
-    ensures { λ r. ⌜ Settled (modelOf (now (image .entry))) d s (now (ks .entry)) (now (members .entry)) (now (ms .entry)) (now (ns .entry)) (now (ms .exit)) (now (ns .exit)) r ⌝ }
+    requires { ⌜ Ready (now image) layout (now texts) «slot_count» (now table) (now members) × (detail ≤ displayDetail) ⌝ }
+    ensures { λ r. ⌜ Settled (modelOf (now (image .entry))) detail «slot_count» (now (members .entry)) (now (table .entry)) (now (table .exit)) r ⌝ }
 {
-    let first = first_declared(s, ks, ms, ns, members, d);
+    let first = first_declared(slot_count, table, members, detail);
     let at = first.at;
     if members.len() <= at {
         return false;
     }
     let v = first.value;
-    if all_agree(image, layout, texts, s, ks, ms, ns, members, at + 1, d, v) {
-        put_all(s, ks, ms, ns, members, d, v);
+    if all_agree(
+        image,
+        layout,
+        texts,
+        slot_count,
+        table,
+        members,
+        at + 1,
+        detail,
+        v,
+    ) {
+        put_all(slot_count, table, members, detail, v);
         return false;
     }
     true
 }
 
-// The members declare values for detail d that don't all agree.
+// The members declare values for a detail that don't all agree: what `warn_display_unit_divergence` asks.
 pub fn diverges<'a>(
     image: &'a [u8],
     layout: Layout,
     texts: &'a [usize],
-    s: usize,
-    ks: &[u8],
-    ms: &[u8],
-    ns: &[u64],
+    slot_count: usize,
+    table: &[u64],
     members: &[usize],
-    d: usize,
+    detail: usize,
 ) -> bool
-    requires { ⌜ Ready (now image) layout (now texts) s (now ks) (now ms) (now ns) (now members) × (d ≤ displayDetail) ⌝ }
-    ensures { λ r. ⌜ r ≡ conflict (modelOf (now (image .entry))) d (declared d (view s (now (ks .entry)) (now (ms .entry)) (now (ns .entry))) (now (members .entry))) ⌝ }
+    requires { ⌜ Ready (now image) layout (now texts) «slot_count» (now table) (now members) × (detail ≤ displayDetail) ⌝ }
+    ensures { λ r. ⌜ r ≡ conflict (modelOf (now (image .entry))) detail (declared detail (view «slot_count» (now (table .entry))) (now (members .entry))) ⌝ }
 {
-    let first = first_declared(s, ks, ms, ns, members, d);
+    let first = first_declared(slot_count, table, members, detail);
     let at = first.at;
     if members.len() <= at {
         return false;
     }
     let v = first.value;
-    if all_agree(image, layout, texts, s, ks, ms, ns, members, at + 1, d, v) {
+    if all_agree(
+        image,
+        layout,
+        texts,
+        slot_count,
+        table,
+        members,
+        at + 1,
+        detail,
+        v,
+    ) {
         return false;
     }
     true

@@ -1,4 +1,4 @@
--- Laws of slots in columns.
+-- Laws of the table of slots.
 use mathlib.Core.Path.{_≡_, refl, sym, ap, _∙_}
 use mathlib.Core.Logic.{_≢_}
 use mathlib.Core.Bool.{Bool, true, false, cond, _&&_}
@@ -7,35 +7,57 @@ use mathlib.Core.Option.{none}
 use Prim.Native.Nat.{ℕ, _+_, _*_, _^_, _<_}
 use native.Mathlib.Omega.{arith}
 use lib.Dec.{eqb}
-use lib.ListN.{length, getD, set}
+use lib.IntN.{ℤ}
+use lib.Ieee.{Float}
+use lib.ListN.{length, getD, set, length-set}
 use lib.Seq.{getD-set-same, getD-set-other, set-getD}
 use borrow.Author.Tests.{eq-eqb, ne-eqb}
 use Rattle.base.specs.Lists.{tab}
 use Rattle.base.proofs.Lists.{length-tab, getD-tab, set-tab, each-same, each-next}
-use Rattle.numbers.specs.Bytes.{bit}
+use Rattle.numbers.specs.Bytes.{bit, signed64, real64}
+use Rattle.oce_model.specs.Format.{quantityBit, unitBit, displayUnitBit, minBit, maxBit, nominalBit}
 use Rattle.oce_model.specs.Attributes.{Attrs, noAttrs, num, marked, declaredAt, declareAt}
-use Rattle.unify.specs.Slots.{slot, kindOf, bitOf, value, put}
-use Rattle.unify_slots.specs.Columns.{width, used, attrsOf, view, declares, Room, Declared, PutOne}
+use Rattle.oce_model.specs.declared.RealAttrs.{RealAttrs}
+use Rattle.oce_model.specs.declared.IntAttrs.{IntAttrs}
+use Rattle.image_records.specs.Records.{realAttrs, intAttrs}
+use Rattle.unify.specs.Slots.{Slots, slot, kindOf, bitOf, value, put}
+use Rattle.unify_slots.specs.Table.{width, numberCount, kindPlace, marksPlace, attrsOf, view, declares, Room, Declared, PutOne}
 
 -- ---- reading
 
-pub slot-view : (s : ℕ) (ks ms ns : List ℕ) (j : ℕ) → j < s → slot (view s ks ms ns) j ≡ attrsOf ks ms ns j
+pub slot-view : (n : ℕ) (table : List ℕ) (j : ℕ) → j < n → slot (view n table) j ≡ attrsOf table j
 unfolding slot view
-slot-view s ks ms ns j h = getD-tab s (attrsOf ks ms ns) j noAttrs h
+slot-view n table j h = getD-tab n (attrsOf table) j noAttrs h
 
-pub kind-view : (s : ℕ) (ks ms ns : List ℕ) (j : ℕ) → j < s → slot (view s ks ms ns) j .kind ≡ getD ks j 0
+-- one slot more is one more at the end
+pub view-next : (i : ℕ) (table : List ℕ) → view (i + 1) table ≡ view i table ++ (attrsOf table i ∷ [])
+unfolding view
+view-next i table = each-next i (λ j. attrsOf table j ∷ [])
+
+pub kind-view : (n : ℕ) (table : List ℕ) (j : ℕ) → j < n → slot (view n table) j .kind ≡ getD table (width * j + kindPlace) 0
 unfolding attrsOf
-kind-view s ks ms ns j h = rw (slot-view s ks ms ns j h)
+kind-view n table j h = rw (slot-view n table j h)
 
-pub marks-view : (s : ℕ) (ks ms ns : List ℕ) (j : ℕ) → j < s → slot (view s ks ms ns) j .marks ≡ getD ms j 0
+pub marks-view : (n : ℕ) (table : List ℕ) (j : ℕ) → j < n → slot (view n table) j .marks ≡ getD table (width * j + marksPlace) 0
 unfolding attrsOf
-marks-view s ks ms ns j h = rw (slot-view s ks ms ns j h)
+marks-view n table j h = rw (slot-view n table j h)
 
-pub num-view : (s : ℕ) (ks ms ns : List ℕ) (j p : ℕ) → j < s → p < used → num (slot (view s ks ms ns) j) p ≡ getD ns (width * j + p) 0
+pub num-view : (n : ℕ) (table : List ℕ) (j p : ℕ) → j < n → p < numberCount → num (slot (view n table) j) p ≡ getD table (width * j + p) 0
 unfolding attrsOf
-num-view s ks ms ns j p h l = rw (slot-view s ks ms ns j h) (getD-tab used (λ p. getD ns (width * j + p) 0) p 0 l)
+num-view n table j p h l = rw (slot-view n table j h) (getD-tab numberCount (λ p. getD table (width * j + p) 0) p 0 l)
 
--- what a slot declares, by its kind and marks
+-- attributes from their parts
+pub real-parts : (a : Attrs) {m q u d x y z : ℕ} {f g h : Float} → m ≡ a .marks → q ≡ num a quantityBit → u ≡ num a unitBit → d ≡ num a displayUnitBit
+    → x ≡ num a minBit → f ≡ real64 x → y ≡ num a maxBit → g ≡ real64 y → z ≡ num a nominalBit → h ≡ real64 z
+    → record { marks = m; quantity = q; unit = u; display = d; min = f; max = g; nominal = h } ≡ realAttrs a
+unfolding realAttrs
+real-parts a em eq eu ed ex ef ey eg ez eh = rw (em, eq, eu, ed, ef, ex, eg, ey, eh, ez)
+
+pub int-parts : (a : Attrs) {m x y : ℕ} {f g : ℤ} → m ≡ a .marks → x ≡ num a minBit → f ≡ signed64 x → y ≡ num a maxBit → g ≡ signed64 y → record { marks = m; min = f; max = g } ≡ intAttrs a
+unfolding intAttrs
+int-parts a em ex ef ey eg = rw (em, ef, ex, eg, ey)
+
+-- what attributes declare, by their kind and marks
 pub value-declares : (d : ℕ) (a : Attrs) → value d a ≡ marked (declares d (a .kind) (a .marks)) (num a (bitOf d))
 unfolding value declares declaredAt
 value-declares d a = arm (eqb (a .kind) (kindOf d))
@@ -44,40 +66,77 @@ value-declares d a = arm (eqb (a .kind) (kindOf d))
     arm true = refl
     arm false = refl
 
--- what slot j declares, as the code reads it
-pub value-view : (s : ℕ) (ks ms ns : List ℕ) (j d : ℕ) → j < s
-    → value d (slot (view s ks ms ns) j) ≡ marked (declares d (getD ks j 0) (getD ms j 0)) (num (slot (view s ks ms ns) j) (bitOf d))
-value-view s ks ms ns j d h = value-declares d (slot (view s ks ms ns) j) ∙ rw (kind-view s ks ms ns j h, marks-view s ks ms ns j h)
+module _ (n : ℕ) (table : List ℕ) (j d : ℕ) {k m : ℕ} {r : Bool} (ek : k ≡ slot (view n table) j .kind) (em : m ≡ slot (view n table) j .marks) (er : r ≡ declares d k m) where
+  declares-so : declares d (slot (view n table) j .kind) (slot (view n table) j .marks) ≡ r
+  declares-so = cc
+
+  pub given-none : (v : ℕ) → r ≡ false → Declared d n table j false v
+  given-none v e = record { is = value-declares d (slot (view n table) j) ∙ rw (declares-so, e) }
+
+  pub given-some : {p v : ℕ} → r ≡ true → p ≡ bitOf d → v ≡ num (slot (view n table) j) p → Declared d n table j true v
+  given-some e ep ev = record { is = value-declares d (slot (view n table) j) ∙ rw (declares-so, e, ev, ep) }
 
 -- ---- writing
 
-same-nums : (ns : List ℕ) (i j p v : ℕ) → i ≢ j → p < used → tab used (λ q. getD (set ns (width * j + p) v) (width * i + q) 0) ≡ tab used (λ q. getD ns (width * i + q) 0)
-same-nums ns i j p v n l =
-    each-same used (λ q. getD (set ns (width * j + p) v) (width * i + q) 0 ∷ []) (λ q. getD ns (width * i + q) 0 ∷ [])
-    (λ q h. ap (λ (x : ℕ). x ∷ []) (getD-set-other ns (width * j + p) (width * i + q) v 0 (λ e. n (omega arith))))
+-- a place of slot j written: another slot stays
+row-other : (t : List ℕ) (i j q v : ℕ) → i ≢ j → q < width → attrsOf (set t (width * j + q) v) i ≡ attrsOf t i
+unfolding attrsOf
+row-other t i j q v n l = rw (
+  getD-set-other t (width * j + q) (width * i + kindPlace) v 0 (λ e. n (omega arith)),
+  getD-set-other t (width * j + q) (width * i + marksPlace) v 0 (λ e. n (omega arith)),
+  each-same numberCount (λ p. getD (set t (width * j + q) v) (width * i + p) 0 ∷ []) (λ p. getD t (width * i + p) 0 ∷ [])
+      (λ p h. ap (λ (x : ℕ). x ∷ []) (getD-set-other t (width * j + q) (width * i + p) v 0 (λ e. n (omega arith)))),
+)
 
-new-nums : (ns : List ℕ) (j p v : ℕ) → p < used → width * j + p < length ns → tab used (λ q. getD (set ns (width * j + p) v) (width * j + q) 0) ≡ set (tab used (λ q. getD ns (width * j + q) 0)) p v
-new-nums ns j p v l h =
-    set-tab used (λ q. getD ns (width * j + q) 0) (λ q. getD (set ns (width * j + p) v) (width * j + q) 0) p v l
-    (getD-set-same ns (width * j + p) v 0 h)
-    (λ q n. getD-set-other ns (width * j + p) (width * j + q) v 0 (λ e. n (omega arith)))
+-- its numbers after its marks, and after one of them
+marked-nums : (t : List ℕ) (j w : ℕ) → tab numberCount (λ q. getD (set t (width * j + marksPlace) w) (width * j + q) 0) ≡ tab numberCount (λ q. getD t (width * j + q) 0)
+marked-nums t j w =
+    each-same numberCount (λ q. getD (set t (width * j + marksPlace) w) (width * j + q) 0 ∷ []) (λ q. getD t (width * j + q) 0 ∷ [])
+    (λ q h. ap (λ (x : ℕ). x ∷ []) (getD-set-other t (width * j + marksPlace) (width * j + q) w 0 (λ e. omega arith)))
+
+new-nums : (t : List ℕ) (j p v : ℕ) → p < numberCount → width * j + p < length t
+    → tab numberCount (λ q. getD (set t (width * j + p) v) (width * j + q) 0) ≡ set (tab numberCount (λ q. getD t (width * j + q) 0)) p v
+new-nums t j p v l h =
+    set-tab numberCount (λ q. getD t (width * j + q) 0) (λ q. getD (set t (width * j + p) v) (width * j + q) 0) p v l
+    (getD-set-same t (width * j + p) v 0 h)
+    (λ q n. getD-set-other t (width * j + p) (width * j + q) v 0 (λ e. n (omega arith)))
 
 -- one number declared at a place of one slot
-written : (s : ℕ) (ks ms ns : List ℕ) (j p v : ℕ) → j < s → p < used → Room s ks ms ns
-    → view s ks (set ms j (getD ms j 0 + 2 ^ p)) (set ns (width * j + p) v) ≡ set (view s ks ms ns) j (declareAt (attrsOf ks ms ns j) p v)
-unfolding view attrsOf declareAt
-written s ks ms ns j p v h l room =
-    let fits : j < length ms = omega (arith, room .marks) in
-    let fits′ : width * j + p < length ns = omega (arith, room .nums) in
-    set-tab s (attrsOf ks ms ns) (attrsOf ks (set ms j (getD ms j 0 + 2 ^ p)) (set ns (width * j + p) v)) j (declareAt (attrsOf ks ms ns j) p v) h
-    (rw (getD-set-same ms j (getD ms j 0 + 2 ^ p) 0 fits, new-nums ns j p v l fits′))
-    (λ i n. rw (getD-set-other ms j i (getD ms j 0 + 2 ^ p) 0 n, same-nums ns i j p v n l))
+module _ (n : ℕ) (table : List ℕ) (j p v : ℕ) (h : j < n) (l : p < numberCount) (room : Room n table) where
+  abbrev w : ℕ
+  w = getD table (width * j + marksPlace) 0 + 2 ^ p
+
+  abbrev table₁ : List ℕ
+  table₁ = set table (width * j + marksPlace) w
+
+  abbrev table₂ : List ℕ
+  table₂ = set table₁ (width * j + p) v
+
+  row-new : attrsOf table₂ j ≡ declareAt (attrsOf table j) p v
+  unfolding attrsOf declareAt
+  row-new =
+      let fits : width * j + marksPlace < length table = omega (arith, room .fits) in
+      let fits′ : width * j + p < length table₁ = rw length-set (omega (arith, room .fits)) in
+      rw (
+        getD-set-other table₁ (width * j + p) (width * j + kindPlace) v 0 (λ e. omega arith),
+        getD-set-other table (width * j + marksPlace) (width * j + kindPlace) w 0 (λ e. omega arith),
+        getD-set-other table₁ (width * j + p) (width * j + marksPlace) v 0 (λ e. omega arith),
+        getD-set-same table (width * j + marksPlace) w 0 fits,
+        new-nums table₁ j p v l fits′,
+        marked-nums table j w,
+      )
+
+  row-old : (i : ℕ) → i ≢ j → attrsOf table₂ i ≡ attrsOf table i
+  row-old i q = row-other table₁ i j p v q (omega arith) ∙ row-other table i j marksPlace w q (omega arith)
+
+  written : view n table₂ ≡ set (view n table) j (declareAt (attrsOf table j) p v)
+  unfolding view
+  written = set-tab n (attrsOf table) (attrsOf table₂) j (declareAt (attrsOf table j) p v) h row-new row-old
 
 -- a slot that keeps what it has
-kept : (s : ℕ) (ks ms ns : List ℕ) (j d v : ℕ) → j < s → put d v (attrsOf ks ms ns j) ≡ attrsOf ks ms ns j
-    → view s ks ms ns ≡ set (view s ks ms ns) j (put d v (slot (view s ks ms ns) j))
+kept : (σ : Slots) (j : ℕ) {a : Attrs} → a ≡ slot σ j → σ ≡ set σ j a
 unfolding slot
-kept s ks ms ns j d v h e = sym (rw (slot-view s ks ms ns j h, e, ← slot-view s ks ms ns j h) (set-getD (view s ks ms ns) j noAttrs))
+kept σ j e = sym (rw e (set-getD σ j noAttrs))
 
 -- what `put` does, by kind and marks
 put-other-kind : (d v : ℕ) (a : Attrs) → eqb (a .kind) (kindOf d) ≡ false → put d v a ≡ a
@@ -96,34 +155,23 @@ put-unset : (d v : ℕ) (a : Attrs) → eqb (a .kind) (kindOf d) ≡ true → bi
 unfolding put declaredAt
 put-unset d v a e f = rw (e, f)
 
-module _ {s : ℕ} {ks ms ns : List ℕ} {j d : ℕ} {r : Bool} (h : j < s) (er : r ≡ declares d (getD ks j 0) (getD ms j 0)) where
-  pub given-none : (v : ℕ) → r ≡ false → Declared d s ks ms ns j false v
-  given-none v e = record { is = value-view s ks ms ns j d h ∙ rw (← er, e) }
+module _ (n : ℕ) (table : List ℕ) (j d v : ℕ) {k x : ℕ} (ex : x ≡ slot (view n table) j .kind) (ek : k ≡ kindOf d) where
+  pub put-other : (x ≡ k → ⊥) → PutOne d v n j table table
+  put-other o =
+      let a = slot (view n table) j in
+      record { slots = kept (view n table) j (put-other-kind d v a (ne-eqb (a .kind) (kindOf d) (λ e. o (ex ∙ e ∙ sym ek)))) }
 
-  pub given-some : {p v : ℕ} → r ≡ true → p ≡ bitOf d → v ≡ num (slot (view s ks ms ns) j) p → Declared d s ks ms ns j true v
-  given-some e ep ev = record { is = value-view s ks ms ns j d h ∙ rw (← er, e, ev, ep) }
+  module _ {p m : ℕ} {r : Bool} (ep : p ≡ bitOf d) (em : m ≡ slot (view n table) j .marks) (er : r ≡ bit m p) where
+    bit-so : bit (slot (view n table) j .marks) (bitOf d) ≡ r
+    bit-so = cc
 
-module _ {s : ℕ} {ks ms ns : List ℕ} {j d v k x : ℕ} (h : j < s) (ek : k ≡ kindOf d) (ex : x ≡ getD ks j 0) where
-  pub put-other : (x ≡ k → ⊥) → PutOne d v s ks j ms ns ms ns
-  unfolding attrsOf
-  put-other n = record { slots = kept s ks ms ns j d v h (put-other-kind d v (attrsOf ks ms ns j) (ne-eqb (getD ks j 0) (kindOf d) (λ e. n (ex ∙ e ∙ sym ek)))) }
+    pub put-marked : r ≡ true → PutOne d v n j table table
+    put-marked e = record { slots = kept (view n table) j (put-set d v (slot (view n table) j) (bit-so ∙ e)) }
 
-  pub put-marked : {p : ℕ} {r : Bool} → p ≡ bitOf d → r ≡ bit (getD ms j 0) p → r ≡ true → PutOne d v s ks j ms ns ms ns
-  unfolding attrsOf
-  put-marked {p} ep er e =
-      let e′ : bit (getD ms j 0) (bitOf d) ≡ true = rw (← ep, ← er) e in
-      record { slots = kept s ks ms ns j d v h (put-set d v (attrsOf ks ms ns j) e′) }
-
-  pub put-new : {p w : ℕ} {r : Bool} → Room s ks ms ns → x ≡ k → p ≡ bitOf d → p < used → r ≡ bit (getD ms j 0) p → r ≡ false → w ≡ getD ms j 0 + 2 ^ p
-      → PutOne d v s ks j ms ns (set ms j w) (set ns (width * j + p) v)
-  unfolding attrsOf
-  put-new {p} {w} room f ep l er e ew =
-      let e′ : bit (getD ms j 0) (bitOf d) ≡ false = rw (← ep, ← er) e in
-      let a = attrsOf ks ms ns j in
-      let q : put d v (slot (view s ks ms ns) j) ≡ declareAt a p v = rw (slot-view s ks ms ns j h, ep) (put-unset d v a (eq-eqb (getD ks j 0) (kindOf d) (sym ex ∙ f ∙ ek)) e′) in
-      record { slots = rw (q, ew) (written s ks ms ns j p v h (omega arith) room) }
-
--- one slot more is one more at the end
-pub view-next : (i : ℕ) (ks ms ns : List ℕ) → view (i + 1) ks ms ns ≡ view i ks ms ns ++ (attrsOf ks ms ns i ∷ [])
-unfolding view
-view-next i ks ms ns = each-next i (λ j. attrsOf ks ms ns j ∷ [])
+    pub put-new : {w : ℕ} → Room n table → j < n → x ≡ k → p < numberCount → r ≡ false → w ≡ m + 2 ^ p
+        → PutOne d v n j table (set (set table (width * j + marksPlace) w) (width * j + p) v)
+    put-new room h f l e ew =
+        let a = slot (view n table) j in
+        let q : put d v a ≡ declareAt a p v = rw ep (put-unset d v a (eq-eqb (a .kind) (kindOf d) (sym ex ∙ f ∙ ek)) (bit-so ∙ e)) in
+        let g : m ≡ getD table (width * j + marksPlace) 0 = em ∙ marks-view n table j h in
+        record { slots = rw (q, slot-view n table j h, ew, g) (written n table j p v h l room) }

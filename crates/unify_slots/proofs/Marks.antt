@@ -1,17 +1,17 @@
--- Laws of the byte of marks, and of the tables of details.
+-- Laws of marks, and of the tables of details.
 use mathlib.Core.Path.{_≡_, refl, sym, ap, _∙_}
 use mathlib.Core.Bool.{Bool, false}
 use Prim.Native.Nat.{ℕ, zero, suc, _+_, _*_, _/_, _%_, _^_, _≤_, _<_}
 use native.Mathlib.Decide.{ℕ-discrete}
 use native.Mathlib.Omega.{arith}
-use borrow.Author.Tests.{eqb-false, eq-eqb, ne-eqb}
-use Rattle.numbers.specs.Bytes.{byteRange, bit}
+use borrow.Author.Tests.{eq-eqb, ne-eqb}
+use Rattle.numbers.specs.Bytes.{bit}
 use Rattle.oce_model.specs.Format.{realKind, integerKind}
 use Rattle.unify.specs.Slots.{displayDetail, kindOf, bitOf}
-use Rattle.unify_slots.specs.Columns.{used, declares}
+use Rattle.unify_slots.specs.Table.{numberCount, declares}
 
--- a shift within the byte
-pub weigh : (p : ℕ) → p < used → 1 * 2 ^ p % byteRange ≡ 2 ^ p
+-- a shift within 64 bits
+pub weigh : (p : ℕ) → p < numberCount → 1 * 2 ^ p % 2 ^ 64 ≡ 2 ^ p
 weigh zero h = refl
 weigh (suc zero) h = refl
 weigh (suc (suc zero)) h = refl
@@ -49,28 +49,14 @@ few-left d h k l m n = omega arith
 pub none-left : (d : ℕ) → d < 4 → (d ≡ 1 → ⊥) → (d ≡ 2 → ⊥) → (d ≡ 3 → ⊥) → 0 ≡ d
 none-left d h k l m = omega arith
 
--- a byte in which a bit isn't set has room for it
-pub mark-fits : (m p : ℕ) → p < used → m < byteRange → bit m p ≡ false → m + 2 ^ p < byteRange
-unfolding bit
-mark-fits m p h l e = go p h (eqb-false (m / 2 ^ p % 2) 1 e)
-  where
-    go : (p : ℕ) → p < used → (m / 2 ^ p % 2 ≡ 1 → ⊥) → m + 2 ^ p < byteRange
-    go zero h n = omega arith
-    go (suc zero) h n = omega arith
-    go (suc (suc zero)) h n = omega arith
-    go (suc (suc (suc zero))) h n = omega arith
-    go (suc (suc (suc (suc zero)))) h n = omega arith
-    go (suc (suc (suc (suc (suc zero))))) h n = omega arith
-    go (suc (suc (suc (suc (suc (suc p)))))) h n = absurd (omega arith)
-
-module _ (d kind marks : ℕ) {x : ℕ} (ex : x ≡ kind) where
-  pub declares-kind : {k p : ℕ} {r : Bool} → k ≡ kindOf d → x ≡ k → p ≡ bitOf d → r ≡ bit marks p → r ≡ declares d kind marks
+module _ (d kind marks : ℕ) where
+  pub declares-kind : {k p : ℕ} {r : Bool} → k ≡ kindOf d → kind ≡ k → p ≡ bitOf d → r ≡ bit marks p → r ≡ declares d kind marks
   unfolding declares
-  declares-kind ek e ep er = er ∙ rw (eq-eqb kind (kindOf d) (sym ex ∙ e ∙ ek), ep)
+  declares-kind ek e ep er = er ∙ rw (eq-eqb kind (kindOf d) (e ∙ ek), ep)
 
-  pub declares-not : {k : ℕ} → k ≡ kindOf d → (x ≡ k → ⊥) → false ≡ declares d kind marks
+  pub declares-not : {k : ℕ} → k ≡ kindOf d → (kind ≡ k → ⊥) → false ≡ declares d kind marks
   unfolding declares
-  declares-not ek n = sym (rw (ne-eqb kind (kindOf d) (λ e. n (ex ∙ e ∙ sym ek))))
+  declares-not ek n = sym (rw (ne-eqb kind (kindOf d) (λ e. n (e ∙ sym ek))))
 
 pub unmarked : (m p : ℕ) {r : Bool} → r ≡ bit m p → r ≡ false → bit m p ≡ false
 unmarked m p er e = sym er ∙ e

@@ -9,7 +9,7 @@ use Rattle.base.proofs.Members.{getD-map}
 use Rattle.oce_model.specs.Attributes.{noAttrs}
 use Rattle.oce_model.specs.Model.{Connector, BoundaryOutput, Model, noConnector, noBoundaryOutput, connector, boundaryOutput, connectorCount}
 use Rattle.unify.specs.Slots.{slotsOf, slot}
-use Rattle.unify_slots.specs.Columns.{slotCount}
+use Rattle.unify_slots.specs.Table.{slotCount}
 
 module _ (m : Model) (j : ℕ) where
   pub slot-connector : j < connectorCount m → slot (slotsOf m) j ≡ connector m j .attrs

@@ -1,10 +1,12 @@
-// The slots of rule 6 in columns: kinds, marks, and eight numbers for each slot.
+// The slots of rule 6 in one table: eight places a slot, six numbers, its kind and its marks.
 use image_accept::Layout;
 use image_records::boundary_output_attrs;
 use image_records::connector_attrs;
+use numbers::int_of_bits;
+use numbers::read8;
 use numbers::read16;
 use numbers::read64;
-use numbers::wide;
+use numbers::real_of_bits;
 use oce_model::ATTRS_DISPLAY_UNIT_AT;
 use oce_model::ATTRS_MARKS_AT;
 use oce_model::ATTRS_MAX_AT;
@@ -15,29 +17,37 @@ use oce_model::ATTRS_UNIT_AT;
 use oce_model::ConnectorId;
 use oce_model::DISPLAY_UNIT_BIT;
 use oce_model::INTEGER_KIND;
+use oce_model::IntAttrs;
 use oce_model::MAX_BIT;
 use oce_model::MIN_BIT;
+use oce_model::NOMINAL_BIT;
 use oce_model::QUANTITY_BIT;
 use oce_model::REAL_KIND;
+use oce_model::RealAttrs;
 use oce_model::UNIT_BIT;
 ghost use mathlib.Core.Path.{_≡_};
 ghost use mathlib.Core.Bool.{false};
-ghost use Prim.Native.Nat.{_+_, _^_, _≤_, _<_, _*_};
-ghost use Rattle.numbers.specs.Bytes.{bit};
-ghost use Rattle.oce_model.specs.Attributes.{num, attrsAt};
-ghost use Rattle.unify.specs.Slots.{slot, displayDetail, kindOf, bitOf, slotsOf};
-ghost use Rattle.unify_slots.specs.Columns.{used, view, declares, Room, Declared, PutOne, width, slotCount};
+ghost use Prim.Native.Nat.{_+_, _^_, _≤_, _<_};
 ghost use lib.ListN.{length};
-ghost use Rattle.base.specs.Buffers.{patch};
+ghost use Rattle.numbers.specs.Bytes.{bit};
 ghost use Rattle.oce_model.specs.Format.{longestImage, connectorAttrs, attrsLength};
+ghost use Rattle.oce_model.specs.Attributes.{num, attrsAt};
 ghost use Rattle.oce_model.specs.Model.{modelOf};
 ghost use Rattle.image_accept.specs.Layout.{Laid};
+ghost use Rattle.image_records.specs.Records.{realAttrs, intAttrs};
+ghost use Rattle.unify.specs.Slots.{slot, displayDetail, kindOf, bitOf, slotsOf};
+ghost use Rattle.unify_slots.specs.Table.{numberCount, view, declares, Room, Declared, PutOne, slotCount};
 ghost use Rattle.unify_slots.specs.Loading.{Loaded, Read};
 
-// The places that a slot has in the column of numbers.
+// The places that a slot has in the table: its numbers stand at the places of their bits.
 pub const WIDTH: usize = 8;
 
-// What slot j declares for a detail.
+// Its kind and its marks stand behind them.
+pub const KIND_PLACE: usize = 6;
+
+pub const MARKS_PLACE: usize = 7;
+
+// What a slot declares for a detail.
 pub struct Given {
     pub set: bool,
     pub value: u64,
@@ -45,23 +55,23 @@ pub struct Given {
 
 // ---- details
 
-// The kind that detail d is an attribute of: 5 and 6 are the ends of an Integer.
-pub fn kind_of(d: usize) -> usize
-    requires { ⌜ d ≤ displayDetail ⌝ }
-    ensures { λ r. ⌜ r ≡ kindOf d ⌝ }
+// The kind that a detail is an attribute of: 5 and 6 are the ends of an Integer.
+pub fn kind_of(detail: usize) -> usize
+    requires { ⌜ detail ≤ displayDetail ⌝ }
+    ensures { λ r. ⌜ r ≡ kindOf detail ⌝ }
 {
-    match d {
+    match detail {
         5 | 6 => INTEGER_KIND,
         _ => REAL_KIND,
     }
 }
 
 // The bit that marks it there.
-pub fn bit_of(d: usize) -> usize
-    requires { ⌜ d ≤ displayDetail ⌝ }
-    ensures { λ r. ⌜ (r ≡ bitOf d) × (r < used) ⌝ }
+pub fn bit_of(detail: usize) -> usize
+    requires { ⌜ detail ≤ displayDetail ⌝ }
+    ensures { λ r. ⌜ (r ≡ bitOf detail) × (r < numberCount) ⌝ }
 {
-    match d {
+    match detail {
         1 => UNIT_BIT,
         2 => QUANTITY_BIT,
         3 => MIN_BIT,
@@ -75,62 +85,99 @@ pub fn bit_of(d: usize) -> usize
 
 // ---- marks
 
-// What bit p counts in a byte.
-fn weight(p: usize) -> u8
-    requires { ⌜ p < used ⌝ }
-    ensures { λ r. ⌜ r ≡ 2 ^ p ⌝ }
-{
-    1u8 << p
-}
-
-// Bit p of a byte is set.
-pub fn is_marked(marks: u8, p: usize) -> bool
-    requires { ⌜ p < used ⌝ }
+// Bit p is set.
+pub fn is_marked(marks: u64, p: usize) -> bool
+    requires { ⌜ p < numberCount ⌝ }
     ensures { λ r. ⌜ r ≡ bit marks p ⌝ }
 {
     (marks >> p) % 2 == 1
 }
 
-// The byte with bit p set, which was not.
-fn with_mark(marks: u8, p: usize) -> u8
-    requires { ⌜ (p < used) × (bit marks p ≡ false) ⌝ }
+// The marks with bit p set, which was not.
+fn with_mark(marks: u64, p: usize) -> u64
+    requires { ⌜ (p < numberCount) × (bit marks p ≡ false) ⌝ }
     ensures { λ r. ⌜ r ≡ marks + 2 ^ p ⌝ }
 {
-    let w = weight(p);
-    marks + w
+    marks + (1u64 << p)
 }
 
-// Attributes of this kind with these marks declare something for detail d.
-fn is_declared(kind: u8, marks: u8, d: usize) -> bool
-    requires { ⌜ d ≤ displayDetail ⌝ }
-    ensures { λ r. ⌜ r ≡ declares d kind marks ⌝ }
+// Attributes of this kind with these marks declare something for a detail.
+fn is_declared(kind: usize, marks: u64, detail: usize) -> bool
+    requires { ⌜ detail ≤ displayDetail ⌝ }
+    ensures { λ r. ⌜ r ≡ declares detail kind marks ⌝ }
 {
-    if wide(kind) == kind_of(d) {
-        return is_marked(marks, bit_of(d));
+    if kind == kind_of(detail) {
+        return is_marked(marks, bit_of(detail));
     }
     false
 }
 
 // ---- one slot
 
-// Slot j's number under bit p.
-pub fn number(s: usize, ks: &[u8], ms: &[u8], ns: &[u64], j: usize, p: usize) -> u64
-    requires { ⌜ Room s (now ks) (now ms) (now ns) × (j < s) × (p < used) ⌝ }
-    ensures { λ r. ⌜ r ≡ num (slot (view s (now (ks .entry)) (now (ms .entry)) (now (ns .entry))) j) p ⌝ }
+// Slot j's kind.
+pub fn kind_at(slot_count: usize, table: &[u64], j: usize) -> usize
+    requires { ⌜ Room «slot_count» (now table) × (j < «slot_count») ⌝ }
+    ensures { λ r. ⌜ r ≡ slot (view «slot_count» (now (table .entry))) j .kind ⌝ }
 {
-    ns[WIDTH * j + p]
+    table[WIDTH * j + KIND_PLACE] as usize
 }
 
-// What slot j declares for detail d.
-pub fn declared_at(s: usize, ks: &[u8], ms: &[u8], ns: &[u64], j: usize, d: usize) -> Given
-    requires { ⌜ Room s (now ks) (now ms) (now ns) × (j < s) × (d ≤ displayDetail) ⌝ }
-    ensures { λ r. ⌜ Declared d s (now (ks .entry)) (now (ms .entry)) (now (ns .entry)) j (r .set) (r .value) ⌝ }
+// Slot j's marks.
+pub fn marks_at(slot_count: usize, table: &[u64], j: usize) -> u64
+    requires { ⌜ Room «slot_count» (now table) × (j < «slot_count») ⌝ }
+    ensures { λ r. ⌜ r ≡ slot (view «slot_count» (now (table .entry))) j .marks ⌝ }
 {
-    if is_declared(ks[j], ms[j], d) {
-        let p = bit_of(d);
+    table[WIDTH * j + MARKS_PLACE]
+}
+
+// Slot j's number under bit p.
+pub fn number(slot_count: usize, table: &[u64], j: usize, p: usize) -> u64
+    requires { ⌜ Room «slot_count» (now table) × (j < «slot_count») × (p < numberCount) ⌝ }
+    ensures { λ r. ⌜ r ≡ num (slot (view «slot_count» (now (table .entry))) j) p ⌝ }
+{
+    table[WIDTH * j + p]
+}
+
+// Slot j as Real attributes.
+pub fn real_at(slot_count: usize, table: &[u64], j: usize) -> RealAttrs
+    requires { ⌜ Room «slot_count» (now table) × (j < «slot_count») ⌝ }
+    ensures { λ r. ⌜ r ≡ realAttrs (slot (view «slot_count» (now (table .entry))) j) ⌝ }
+{
+    RealAttrs {
+        marks: marks_at(slot_count, table, j) as usize,
+        quantity: number(slot_count, table, j, QUANTITY_BIT) as usize,
+        unit: number(slot_count, table, j, UNIT_BIT) as usize,
+        display: number(slot_count, table, j, DISPLAY_UNIT_BIT) as usize,
+        min: real_of_bits(number(slot_count, table, j, MIN_BIT)),
+        max: real_of_bits(number(slot_count, table, j, MAX_BIT)),
+        nominal: real_of_bits(number(slot_count, table, j, NOMINAL_BIT)),
+    }
+}
+
+// Slot j as Integer attributes.
+pub fn int_at(slot_count: usize, table: &[u64], j: usize) -> IntAttrs
+    requires { ⌜ Room «slot_count» (now table) × (j < «slot_count») ⌝ }
+    ensures { λ r. ⌜ r ≡ intAttrs (slot (view «slot_count» (now (table .entry))) j) ⌝ }
+{
+    IntAttrs {
+        marks: marks_at(slot_count, table, j) as usize,
+        min: int_of_bits(number(slot_count, table, j, MIN_BIT)),
+        max: int_of_bits(number(slot_count, table, j, MAX_BIT)),
+    }
+}
+
+// What slot j declares for a detail.
+pub fn declared_at(slot_count: usize, table: &[u64], j: usize, detail: usize) -> Given
+    requires { ⌜ Room «slot_count» (now table) × (j < «slot_count») × (detail ≤ displayDetail) ⌝ }
+    ensures { λ r. ⌜ Declared detail «slot_count» (now (table .entry)) j (r .set) (r .value) ⌝ }
+{
+    let kind = kind_at(slot_count, table, j);
+    let marks = marks_at(slot_count, table, j);
+    if is_declared(kind, marks, detail) {
+        let p = bit_of(detail);
         return Given {
             set: true,
-            value: number(s, ks, ms, ns, j, p),
+            value: number(slot_count, table, j, p),
         };
     }
     Given {
@@ -139,94 +186,66 @@ pub fn declared_at(s: usize, ks: &[u8], ms: &[u8], ns: &[u64], j: usize, d: usiz
     }
 }
 
-// Slot j takes v for detail d, where it is of the kind and declares nothing.
-pub fn put_one(s: usize, ks: &[u8], ms: &mut [u8], ns: &mut [u64], j: usize, d: usize, v: u64)
-    requires { ⌜ Room s (now ks) (now ms) (now ns) × (j < s) × (d ≤ displayDetail) ⌝ }
-    ensures { λ _. ⌜ PutOne d v s (now (ks .entry)) j (now (ms .entry)) (now (ns .entry)) (now (ms .exit)) (now (ns .exit)) ⌝ }
+// Slot j takes v for a detail, where it is of the kind and declares nothing.
+pub fn put_one(slot_count: usize, table: &mut [u64], j: usize, detail: usize, v: u64)
+    requires { ⌜ Room «slot_count» (now table) × (j < «slot_count») × (detail ≤ displayDetail) ⌝ }
+    ensures { λ _. ⌜ PutOne detail v «slot_count» j (now (table .entry)) (now (table .exit)) ⌝ }
 {
-    if wide(ks[j]) != kind_of(d) {
+    if kind_at(slot_count, table, j) != kind_of(detail) {
         return;
     }
-    let p = bit_of(d);
-    let marks = ms[j];
+    let p = bit_of(detail);
+    let marks = marks_at(slot_count, table, j);
     if is_marked(marks, p) {
         return;
     }
-    ms[j] = with_mark(marks, p);
-    ns[WIDTH * j + p] = v;
+    table[WIDTH * j + MARKS_PLACE] = with_mark(marks, p);
+    table[WIDTH * j + p] = v;
 }
 
-// The slots of an accepted image, read into columns.
-
-// Copies src into dst from index at on.
-fn copy_numbers(dst: &mut [u64], at: usize, src: &[u64])
-    requires { ⌜ at + length (now src) ≤ length (now dst) ⌝ }
-    ensures { λ _. ⌜ now (dst .exit) ≡ patch (now (dst .entry)) at (now (src .entry)) ⌝ }
-{
-    let mut i = 0;
-    while i < src.len() {
-        dst[at + i] = src[i];
-        i += 1;
-    }
-}
-
-// Slot j's numbers, from the attributes at an offset of the image.
-fn load_numbers(image: &[u8], at: usize, j: usize, ns: &mut [u64])
-    requires { ⌜ (at ≤ longestImage + connectorAttrs) × (at + attrsLength ≤ length (now image)) × (width * (j + 1) ≤ length (now ns)) ⌝ }
-    ensures { λ _. ⌜ now (ns .exit) ≡ patch (now (ns .entry)) (width * j) (attrsAt (now (image .entry)) at .nums) ⌝ }
-{
-    let row: [u64; 6] = [
-        read16(image, at + ATTRS_QUANTITY_AT) as u64,
-        read16(image, at + ATTRS_UNIT_AT) as u64,
-        read16(image, at + ATTRS_DISPLAY_UNIT_AT) as u64,
-        read64(image, at + ATTRS_MIN_AT),
-        read64(image, at + ATTRS_MAX_AT),
-        read64(image, at + ATTRS_NOMINAL_AT),
-    ];
-    copy_numbers(ns, WIDTH * j, &row);
-}
+// ---- the slots of an accepted image, read into the table
 
 // Slot j, from the attributes at an offset of the image.
-fn load_slot(image: &[u8], at: usize, j: usize, ks: &mut [u8], ms: &mut [u8], ns: &mut [u64])
-    requires { ⌜ (at ≤ longestImage + connectorAttrs) × (at + attrsLength ≤ length (now image)) × Room (j + 1) (now ks) (now ms) (now ns) ⌝ }
-    ensures { λ _. ⌜ Loaded j (attrsAt (now (image .entry)) at) (now (ks .entry)) (now (ms .entry)) (now (ns .entry)) (now (ks .exit)) (now (ms .exit)) (now (ns .exit)) ⌝ }
+fn load_slot(image: &[u8], at: usize, j: usize, table: &mut [u64])
+    requires { ⌜ (at ≤ longestImage + connectorAttrs) × (at + attrsLength ≤ length (now image)) × Room (j + 1) (now table) ⌝ }
+    ensures { λ _. ⌜ Loaded j (attrsAt (now (image .entry)) at) (now (table .entry)) (now (table .exit)) ⌝ }
 {
-    ks[j] = image[at];
-    ms[j] = image[at + ATTRS_MARKS_AT];
-    load_numbers(image, at, j, ns);
+    let row = WIDTH * j;
+    table[row + QUANTITY_BIT] = read16(image, at + ATTRS_QUANTITY_AT) as u64;
+    table[row + UNIT_BIT] = read16(image, at + ATTRS_UNIT_AT) as u64;
+    table[row + DISPLAY_UNIT_BIT] = read16(image, at + ATTRS_DISPLAY_UNIT_AT) as u64;
+    table[row + MIN_BIT] = read64(image, at + ATTRS_MIN_AT);
+    table[row + MAX_BIT] = read64(image, at + ATTRS_MAX_AT);
+    table[row + NOMINAL_BIT] = read64(image, at + ATTRS_NOMINAL_AT);
+    table[row + KIND_PLACE] = read8(image, at) as u64;
+    table[row + MARKS_PLACE] = read8(image, at + ATTRS_MARKS_AT) as u64;
 }
 
 // Slot j of the image.
-fn load_at(image: &[u8], layout: Layout, j: usize, ks: &mut [u8], ms: &mut [u8], ns: &mut [u64])
-    requires { ⌜ Laid (now image) layout × (j < slotCount (modelOf (now image))) × Room (j + 1) (now ks) (now ms) (now ns) ⌝ }
-    ensures { λ _. ⌜ Loaded j (slot (slotsOf (modelOf (now (image .entry)))) j) (now (ks .entry)) (now (ms .entry)) (now (ns .entry)) (now (ks .exit)) (now (ms .exit)) (now (ns .exit)) ⌝ }
+fn load_at(image: &[u8], layout: Layout, j: usize, table: &mut [u64])
+    requires { ⌜ Laid (now image) layout × (j < slotCount (modelOf (now image))) × Room (j + 1) (now table) ⌝ }
+    ensures { λ _. ⌜ Loaded j (slot (slotsOf (modelOf (now (image .entry)))) j) (now (table .entry)) (now (table .exit)) ⌝ }
 {
     let n = layout.connectors.count;
     if j < n {
         let at = connector_attrs(image, layout, ConnectorId(j as u32));
-        load_slot(image, at, j, ks, ms, ns);
+        load_slot(image, at, j, table);
         return;
     }
     let at = boundary_output_attrs(image, layout, j - n);
-    load_slot(image, at, j, ks, ms, ns);
+    load_slot(image, at, j, table);
 }
 
 // All slots of the image; how many they are.
-pub fn load_slots(
-    image: &[u8],
-    layout: Layout,
-    ks: &mut [u8],
-    ms: &mut [u8],
-    ns: &mut [u64],
-) -> usize
-    requires { ⌜ Laid (now image) layout × Room (slotCount (modelOf (now image))) (now ks) (now ms) (now ns) ⌝ }
-    ensures { λ s. ⌜ Read (modelOf (now (image .entry))) s (now (ks .exit)) (now (ms .exit)) (now (ns .exit)) ⌝ }
+pub fn load_slots(image: &[u8], layout: Layout, table: &mut [u64]) -> usize
+    requires { ⌜ Laid (now image) layout × Room (slotCount (modelOf (now image))) (now table) ⌝ }
+    ensures { λ n. ⌜ Read (modelOf (now (image .entry))) n (now (table .exit)) ⌝ }
 {
-    let s = layout.connectors.count + layout.outputs.count;
+    let slot_count = layout.connectors.count + layout.outputs.count;
     let mut j = 0;
-    while j < s {
-        load_at(image, layout, j, ks, ms, ns);
+    while j < slot_count {
+        load_at(image, layout, j, table);
         j += 1;
     }
-    s
+    slot_count
 }

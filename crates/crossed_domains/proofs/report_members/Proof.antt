@@ -13,7 +13,7 @@ report-members-spec =
     (λ c κs.
     let pre = c .before .before .before .before .before .before .before .before .before .before .before .before .before .before .before .before .pre in
     let order = c .before .before .before .before .before .before .sort .ensures in
-    (pre .0, pre .1, pre .2, members-sorted _ _ order _ (collected-below (pre .0) (pre .4)), omega (arith, length-sorted _ _ order, members-few (pre .0), pre .5), pre .7))
+    (pre .0, pre .1, pre .2, members-sorted _ _ order _ (collected-below (pre .0) (pre .4)), omega (arith, length-sorted _ _ order, members-few (pre .0), pre .5), omega (arith, length-sorted _ _ order, pre .5, pre .7)))
     (λ c. search needs)
     (λ c. search needs)
     (λ c. search needs)

@@ -3,7 +3,7 @@ use Prim.Native.Nat.{_-_}
 use borrow.Author.Needs.{needs}
 use Rattle.oce_model.specs.Model.{modelOf}
 use Rattle.oce_diag.specs.Putting.{Emits}
-use Rattle.oce_diag.proofs.Putting.{emits-start, emits-turn, emits-put, emits-ones, emits-one, emits-length}
+use Rattle.oce_diag.proofs.Putting.{emits-start, emits-turn, emits-put, emits-adds, emits-countable, emits-length}
 use Rattle.image_records.proofs.Laws.{connectors-few}
 use Rattle.crossed_records.specs.Details.{connectorCrossed}
 use Rattle.crossed_records.proofs.Laws.{connectors-room, number-small}
@@ -24,9 +24,9 @@ connectors-crossed-spec =
     μ-loop
     (λ c. search (emits-start, needs))
     (λ c. search (number-small, connectors-room, needs))
-    (λ c κs. search (emits-one, connectors-few, needs))
+    (λ c κs. search (emits-countable, connectors-few, needs))
     (λ c. search needs)
     (λ c. search needs)
     (λ c. search (emits-turn, needs))
     (λ c. search (emits-length, needs))
-    (λ c. search (emits-put, emits-ones, connectors-few, needs)))
+    (λ c. search (emits-put, emits-adds, connectors-few, needs)))

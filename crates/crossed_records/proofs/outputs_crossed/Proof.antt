@@ -3,7 +3,7 @@ use Prim.Native.Nat.{_-_}
 use borrow.Author.Needs.{needs}
 use Rattle.oce_model.specs.Model.{modelOf}
 use Rattle.oce_diag.specs.Putting.{Emits}
-use Rattle.oce_diag.proofs.Putting.{emits-start, emits-turn, emits-put, emits-ones, emits-one, emits-length}
+use Rattle.oce_diag.proofs.Putting.{emits-start, emits-turn, emits-put, emits-adds, emits-countable, emits-length}
 use Rattle.image_records.proofs.Laws.{boundary-outputs-few}
 use Rattle.crossed_records.specs.Details.{outputCrossed}
 use Rattle.crossed_records.proofs.Laws.{outputs-room}
@@ -23,9 +23,9 @@ outputs-crossed-spec =
     Inv-loop
     μ-loop
     (λ c. search (emits-start, needs))
-    (λ c κs. search (emits-one, boundary-outputs-few, needs))
+    (λ c κs. search (emits-countable, boundary-outputs-few, needs))
     (λ c. let room = outputs-room (c .before .before .before .before .before .before .before .before .before .pre .0) in search needs)
     (λ c. search needs)
     (λ c. search (emits-turn, needs))
     (λ c. search (emits-length, needs))
-    (λ c. search (emits-put, emits-ones, boundary-outputs-few, needs)))
+    (λ c. search (emits-put, emits-adds, boundary-outputs-few, needs)))

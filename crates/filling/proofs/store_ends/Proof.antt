@@ -1,6 +1,6 @@
--- `filling::store_ends` meets its contract: three parts that are written one behind the other are one.
+-- `filling::store_ends` meets its contract.
 use borrow.Author.Needs.{needs}
-use Rattle.filling.proofs.Laws.{patch-numbers}
+use Rattle.filling.proofs.Laws.{patch-ends}
 use Rattle.filling.proofs.store_ends.Statement.{statement}
 use Rattle.filling.proofs.store_ends.Tie as tie
 
@@ -9,9 +9,16 @@ store-ends-spec =
     tie.close
     (tie.spec
     (λ c κs. search needs)
-    (λ c. search needs)
+    (λ c κs. search needs)
+    (λ c κs. search needs)
     (λ c κs. search needs)
     (λ c. search needs)
     (λ c κs. search needs)
     (λ c. search needs)
-    (λ c. let a = c .before .before .before .before .before .before in patch-numbers 8 _ _ _ _ _ (c .before .before .write643 .ensures) (a .write642 .ensures) (a .before .before .before .before .write64 .ensures) (search needs)))
+    (λ c κs. search needs)
+    (λ c. search needs)
+    (λ c.
+    let b = c .before .before .before .before .before .before in
+    let a = b .before .before .before .before in
+    let n = a .before .before in
+    patch-ends _ _ _ (c .before .before .write643 .ensures) (b .write642 .ensures) (a .write64 .ensures) (n .before .before .number .ensures) (n .before .number2 .ensures) (n .number3 .ensures) (search needs)))

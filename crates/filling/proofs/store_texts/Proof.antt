@@ -1,6 +1,6 @@
--- `filling::store_texts` meets its contract: three parts that are written one behind the other are one.
+-- `filling::store_texts` meets its contract.
 use borrow.Author.Needs.{needs}
-use Rattle.filling.proofs.Laws.{patch-lows}
+use Rattle.filling.proofs.Laws.{patch-texts}
 use Rattle.filling.proofs.store_texts.Statement.{statement}
 use Rattle.filling.proofs.store_texts.Tie as tie
 
@@ -8,6 +8,9 @@ pub store-texts-spec : {M : Type 1} → statement M
 store-texts-spec =
     tie.close
     (tie.spec
+    (λ c κs. search needs)
+    (λ c κs. search needs)
+    (λ c κs. search needs)
     (λ c. search needs)
     (λ c κs. search needs)
     (λ c. search needs)
@@ -17,4 +20,8 @@ store-texts-spec =
     (λ c. search needs)
     (λ c κs. search needs)
     (λ c. search needs)
-    (λ c. let a = c .before .before .before .before .before .before in patch-lows 2 _ _ _ _ _ (c .before .before .write163 .ensures) (a .write162 .ensures) (a .before .before .before .before .write16 .ensures) (search needs)))
+    (λ c.
+    let b = c .before .before .before .before .before .before in
+    let a = b .before .before .before .before in
+    let n = a .before .before in
+    patch-texts _ _ _ (c .before .before .write163 .ensures) (b .write162 .ensures) (a .write16 .ensures) (n .before .before .number .ensures) (n .before .number2 .ensures) (n .number3 .ensures) (search needs)))

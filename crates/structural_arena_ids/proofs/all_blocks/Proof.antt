@@ -5,14 +5,13 @@ use Rattle.oce_diag.specs.Putting.{Emits}
 use Rattle.structural.specs.Structural.{blockFaults, connectorFaults}
 use Rattle.oce_model.specs.Model.{modelOf, block, connector}
 use Rattle.oce_diag.proofs.Putting.{emits-start, emits-turn, emits-put, emits-adds, emits-countable, emits-length}
-use Rattle.oce_model.specs.Format.{mostBlocks}
 use Rattle.image_records.proofs.Laws.{blocks-few}
 use Rattle.structural_arena_ids.specs.PerRecord.{mostBlockFaults}
 use Rattle.structural_arena_ids.proofs.Laws.{block-number}
 use Rattle.structural_arena_ids.proofs.all_blocks.Statement.{statement}
 use Rattle.structural_arena_ids.proofs.all_blocks.Tie as tie
 
-ruleset mine = (emits-start, emits-turn, emits-put, emits-adds mostBlocks, emits-countable mostBlocks, emits-length, blocks-few, block-number, needs)
+ruleset mine = (emits-start, emits-turn, emits-put, emits-adds, emits-countable, emits-length, blocks-few, block-number, needs)
 
 abbrev Inv-loop : tie.InvT-loop
 Inv-loop image layout blocks report₀ section c₀ i₀ report c i = Emits (λ i. blockFaults (modelOf image) i (block (modelOf image) i)) mostBlockFaults (layout .blocks .count) report₀ c₀ report c i

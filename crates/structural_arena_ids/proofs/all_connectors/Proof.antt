@@ -5,14 +5,13 @@ use Rattle.oce_diag.specs.Putting.{Emits}
 use Rattle.structural.specs.Structural.{blockFaults, connectorFaults}
 use Rattle.oce_model.specs.Model.{modelOf, block, connector}
 use Rattle.oce_diag.proofs.Putting.{emits-start, emits-turn, emits-put, emits-adds, emits-countable, emits-length}
-use Rattle.oce_model.specs.Format.{mostConnectors}
 use Rattle.image_records.proofs.Laws.{connectors-few}
 use Rattle.structural_arena_ids.specs.PerRecord.{mostConnectorFaults}
 use Rattle.structural_arena_ids.proofs.Laws.{connector-number}
 use Rattle.structural_arena_ids.proofs.all_connectors.Statement.{statement}
 use Rattle.structural_arena_ids.proofs.all_connectors.Tie as tie
 
-ruleset mine = (emits-start, emits-turn, emits-put, emits-adds mostConnectors, emits-countable mostConnectors, emits-length, connectors-few, connector-number, needs)
+ruleset mine = (emits-start, emits-turn, emits-put, emits-adds, emits-countable, emits-length, connectors-few, connector-number, needs)
 
 abbrev Inv-loop : tie.InvT-loop
 Inv-loop image layout report₀ section c₀ i₀ report c i = Emits (λ i. connectorFaults (modelOf image) i (connector (modelOf image) i)) mostConnectorFaults (layout .connectors .count) report₀ c₀ report c i

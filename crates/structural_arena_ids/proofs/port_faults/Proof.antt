@@ -2,12 +2,12 @@
 use borrow.Author.Needs.{needs}
 use Prim.Native.Nat.{_-_}
 use Rattle.oce_diag.specs.Putting.{Emits}
-use Rattle.oce_diag.proofs.Putting.{emits-start, emits-turn, emits-put, emits-ones, emits-one, emits-length}
+use Rattle.oce_diag.proofs.Putting.{emits-start, emits-turn, emits-put, emits-adds, emits-countable, emits-length}
 use Rattle.structural_arena_ids.specs.PerRecord.{portFault}
 use Rattle.structural_arena_ids.proofs.port_faults.Statement.{statement}
 use Rattle.structural_arena_ids.proofs.port_faults.Tie as tie
 
-ruleset mine = (emits-start, emits-turn, emits-put, emits-ones, emits-one, emits-length, needs)
+ruleset mine = (emits-start, emits-turn, emits-put, emits-adds, emits-countable, emits-length, needs)
 
 abbrev Inv-loop : tie.InvT-loop
 Inv-loop image n subject detail ids count report₀ c₀ j₀ report c j = Emits (portFault n subject detail image ids) 1 count report₀ c₀ report c j

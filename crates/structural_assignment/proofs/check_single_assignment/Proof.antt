@@ -5,7 +5,6 @@ use Rattle.oce_diag.specs.Putting.{Emits}
 use Rattle.oce_diag.proofs.Putting.{emits-start, emits-turn, emits-adds, emits-countable, emits-length}
 use Rattle.structural.specs.Structural.{assignmentFaults}
 use Rattle.oce_model.specs.Model.{modelOf, connector}
-use Rattle.oce_model.specs.Format.{mostConnectors}
 use Rattle.image_records.proofs.Laws.{connectors-few}
 use Rattle.structural_arena_ids.proofs.Laws.{connector-number}
 use Rattle.structural_assignment.specs.PerRecord.{mostAssignmentFaults}
@@ -27,9 +26,9 @@ check-single-assignment-spec =
     μ-loop
     (λ c. search (emits-start, needs))
     (λ c. search (connector-number, needs))
-    (λ c κs. search (emits-countable mostConnectors, connectors-few, needs))
+    (λ c κs. search (emits-countable, connectors-few, needs))
     (λ c. search needs)
     (λ c. search needs)
     (λ c. search (emits-turn, needs))
     (λ c. search (emits-length, needs))
-    (λ c. search (rule3-put, emits-adds mostConnectors, connectors-few, needs)))
+    (λ c. search (rule3-put, emits-adds, connectors-few, needs)))

@@ -5,7 +5,6 @@ use Rattle.oce_diag.specs.Putting.{Emits}
 use Rattle.oce_diag.proofs.Putting.{emits-start, emits-turn, emits-adds, emits-countable, emits-length}
 use Rattle.structural.specs.Structural.{outputFaults}
 use Rattle.oce_model.specs.Model.{modelOf, boundaryOutput}
-use Rattle.oce_model.specs.Format.{mostBoundaryOutputs}
 use Rattle.image_records.proofs.Laws.{boundary-outputs-few}
 use Rattle.structural_wiring.specs.PerRecord.{mostOutputFaults}
 use Rattle.structural_wiring.proofs.Laws.{rule2-put}
@@ -25,9 +24,9 @@ check-boundary-outputs-spec =
     Inv-loop
     μ-loop
     (λ c. search (emits-start, needs))
-    (λ c κs. search (emits-countable mostBoundaryOutputs, boundary-outputs-few, needs))
+    (λ c κs. search (emits-countable, boundary-outputs-few, needs))
     (λ c. search needs)
     (λ c. search needs)
     (λ c. search (emits-turn, needs))
     (λ c. search (emits-length, needs))
-    (λ c. search (rule2-put, emits-adds mostBoundaryOutputs, boundary-outputs-few, needs)))
+    (λ c. search (rule2-put, emits-adds, boundary-outputs-few, needs)))

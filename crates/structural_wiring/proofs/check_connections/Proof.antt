@@ -5,7 +5,6 @@ use Rattle.oce_diag.specs.Putting.{Emits}
 use Rattle.oce_diag.proofs.Putting.{emits-start, emits-turn, emits-adds, emits-countable, emits-length}
 use Rattle.structural.specs.Structural.{connectionFaults}
 use Rattle.oce_model.specs.Model.{modelOf, connection}
-use Rattle.oce_model.specs.Format.{mostConnections}
 use Rattle.image_records.proofs.Laws.{connections-few}
 use Rattle.structural_wiring.specs.PerRecord.{mostConnectionFaults}
 use Rattle.structural_wiring.proofs.Laws.{rule4-put}
@@ -25,9 +24,9 @@ check-connections-spec =
     Inv-loop
     μ-loop
     (λ c. search (emits-start, needs))
-    (λ c κs. search (emits-countable mostConnections, connections-few, needs))
+    (λ c κs. search (emits-countable, connections-few, needs))
     (λ c. search needs)
     (λ c. search needs)
     (λ c. search (emits-turn, needs))
     (λ c. search (emits-length, needs))
-    (λ c. search (rule4-put, emits-adds mostConnections, connections-few, needs)))
+    (λ c. search (rule4-put, emits-adds, connections-few, needs)))

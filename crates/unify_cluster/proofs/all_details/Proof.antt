@@ -14,5 +14,4 @@ all-details-spec =
     (λ c κs. search needs)
     (λ c. search needs)
     (λ c. search needs)
-    (λ c. search needs)
     (λ c. search mine))

@@ -9,10 +9,10 @@ use Rattle.unify_cluster.proofs.details.Statement.{statement}
 use Rattle.unify_cluster.proofs.details.Tie as tie
 
 abbrev Inv-loop : tie.InvT-loop
-Inv-loop image layout texts s ks ms₀ ns₀ members r found report₀ c₀ i₀ ms ns report c i = Details (modelOf image) r s ks members ms₀ ns₀ ms ns report₀ c₀ report c i
+Inv-loop image layout texts n table₀ members root found report₀ c₀ i₀ table report c i = Details (modelOf image) (root .0) n members table₀ table report₀ c₀ report c i
 
 abbrev μ-loop : tie.MeasureT-loop
-μ-loop image layout texts s ks ms₀ ns₀ members r found report₀ c₀ i₀ ms ns report c i = unifiedDetails - i
+μ-loop image layout texts n table₀ members root found report₀ c₀ i₀ table report c i = unifiedDetails - i
 
 ruleset mine = (details-start, details-turn, details-ready, details-done, details-report, details-few, needs)
 
@@ -25,7 +25,6 @@ details-spec =
     (λ c. search mine)
     (λ c. search mine)
     (λ c κs. (search (details-ready, needs), search needs, search needs, search (details-few, needs), search (details-unseen, needs)))
-    (λ c. search mine)
     (λ c. search mine)
     (λ c. search mine)
     (λ c. search mine)

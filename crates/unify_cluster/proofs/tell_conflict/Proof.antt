@@ -1,10 +1,10 @@
 -- `unify_cluster::tell_conflict` meets its contract.
 use borrow.Author.Needs.{needs}
-use Rattle.unify_cluster.proofs.Laws.{root-fits, told-conflict}
+use Rattle.unify_cluster.proofs.Laws.{told-conflict}
 use Rattle.unify_cluster.proofs.tell_conflict.Statement.{statement}
 use Rattle.unify_cluster.proofs.tell_conflict.Tie as tie
 
-ruleset mine = (root-fits, told-conflict, needs)
+ruleset mine = (told-conflict, needs)
 
 pub tell-conflict-spec : {M : Type 1} → statement M
 tell-conflict-spec =
@@ -13,7 +13,6 @@ tell-conflict-spec =
     (λ c κs. search needs)
     (λ c κs. search needs)
     (λ c. search needs)
-    (λ c. search mine)
     (λ c κs. search needs)
     (λ c κs. search needs)
     (λ c. search needs)

@@ -1,10 +1,10 @@
 -- `unify_cluster::tell_divergence` meets its contract.
 use borrow.Author.Needs.{needs}
-use Rattle.unify_cluster.proofs.Laws.{root-fits, told-divergence}
+use Rattle.unify_cluster.proofs.Laws.{told-divergence}
 use Rattle.unify_cluster.proofs.tell_divergence.Statement.{statement}
 use Rattle.unify_cluster.proofs.tell_divergence.Tie as tie
 
-ruleset mine = (root-fits, told-divergence, needs)
+ruleset mine = (told-divergence, needs)
 
 pub tell-divergence-spec : {M : Type 1} → statement M
 tell-divergence-spec =
@@ -12,7 +12,6 @@ tell-divergence-spec =
     (tie.spec
     (λ c κs. search needs)
     (λ c. search needs)
-    (λ c. search mine)
     (λ c κs. search needs)
     (λ c κs. search needs)
     (λ c. search needs)

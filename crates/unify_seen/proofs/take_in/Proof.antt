@@ -7,4 +7,4 @@ use Rattle.unify_seen.proofs.take_in.Tie as tie
 ruleset mine = (taken-marks, taken-none, needs)
 
 pub take-in-spec : {M : Type 1} → statement M
-take-in-spec = tie.close (tie.spec (λ c κs. search needs) (λ c. search mine) (λ c. search mine))
+take-in-spec = tie.close (tie.spec (λ c. search mine) (λ c. search mine))

@@ -3,17 +3,17 @@ use borrow.Author.Needs.{needs}
 use Prim.Native.Nat.{_-_}
 use lib.ListN.{length}
 use Rattle.oce_model.specs.Model.{modelOf}
-use Rattle.unify_slots.specs.Columns.{view}
+use Rattle.unify_slots.specs.Table.{view}
 use Rattle.unify_settle.proofs.Laws.{Alike}
 use Rattle.unify_settle.proofs.Laws.{alike-start, alike-turn, alike-differ, alike-done, inside-at}
 use Rattle.unify_settle.proofs.all_agree.Statement.{statement}
 use Rattle.unify_settle.proofs.all_agree.Tie as tie
 
 abbrev Inv-loop : tie.InvT-loop
-Inv-loop image layout texts s ks ms ns members from d v i₀ i = Alike (modelOf image) d v (view s ks ms ns) members from i
+Inv-loop image layout texts n table members from detail v i₀ i = Alike (modelOf image) detail v (view n table) members from i
 
 abbrev μ-loop : tie.MeasureT-loop
-μ-loop image layout texts s ks ms ns members from d v i₀ i = length members - i
+μ-loop image layout texts n table members from detail v i₀ i = length members - i
 
 ruleset mine = (alike-start, alike-turn, alike-differ, alike-done, inside-at, needs)
 

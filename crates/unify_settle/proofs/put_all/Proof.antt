@@ -8,10 +8,10 @@ use Rattle.unify_settle.proofs.put_all.Statement.{statement}
 use Rattle.unify_settle.proofs.put_all.Tie as tie
 
 abbrev Inv-loop : tie.InvT-loop
-Inv-loop s ks ms₀ ns₀ members d v i₀ ms ns i = Puts d v s ks members ms₀ ns₀ ms ns i
+Inv-loop n table₀ members detail v i₀ table i = Puts detail v n members table₀ table i
 
 abbrev μ-loop : tie.MeasureT-loop
-μ-loop s ks ms₀ ns₀ members d v i₀ ms ns i = length members - i
+μ-loop n table₀ members detail v i₀ table i = length members - i
 
 ruleset mine = (puts-start, puts-turn, puts-done, needs)
 
@@ -23,7 +23,6 @@ put-all-spec =
     μ-loop
     (λ c. search mine)
     (λ c κs. search mine)
-    (λ c. search mine)
     (λ c. search mine)
     (λ c. search mine)
     (λ c. search mine)

@@ -14,5 +14,4 @@ put-member-spec =
     (λ c. search needs)
     (λ c κs. search mine)
     (λ c. search needs)
-    (λ c. search needs)
     (λ c. search needs))

@@ -18,4 +18,4 @@ bit-of-spec =
     (λ c. (ap bitOf (sym (c .match .keys5)), search needs))
     (λ c. (ap bitOf (sym (c .match .keys6)), search needs))
     (λ c. (ap bitOf (sym (c .match .keys7)), search needs))
-    (λ c. (ap bitOf (none-left (c .before .args .d) (search (few-left, needs)) (search needs) (search needs) (search needs)), search needs)))
+    (λ c. (ap bitOf (none-left (c .before .args .detail) (search (few-left, needs)) (search needs) (search needs) (search needs)), search needs)))

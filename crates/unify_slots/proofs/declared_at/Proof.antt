@@ -1,6 +1,6 @@
 -- `unify_slots::declared_at` meets its contract.
-use Rattle.unify_slots.proofs.Laws.{given-none, given-some}
 use borrow.Author.Needs.{needs}
+use Rattle.unify_slots.proofs.Laws.{given-none, given-some}
 use Rattle.unify_slots.proofs.declared_at.Statement.{statement}
 use Rattle.unify_slots.proofs.declared_at.Tie as tie
 
@@ -10,8 +10,8 @@ pub declared-at-spec : {M : Type 1} → statement M
 declared-at-spec =
     tie.close
     (tie.spec
-    (λ c. search needs)
-    (λ c. search needs)
+    (λ c κs. search needs)
+    (λ c κs. search needs)
     (λ c κs. search needs)
     (λ c κs. search needs)
     (λ c κs. search needs)

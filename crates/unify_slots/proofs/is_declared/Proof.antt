@@ -13,6 +13,5 @@ is-declared-spec =
     (λ c κs. search needs)
     (λ c κs. search needs)
     (λ c κs. search needs)
-    (λ c κs. search needs)
     (λ c. search mine)
     (λ c. search mine))

@@ -10,5 +10,4 @@ is-marked-spec =
     tie.close
     (tie.spec
     (λ c. search needs)
-    (λ c. search needs)
     (λ c. search needs))

@@ -7,10 +7,10 @@ use Rattle.unify_slots.proofs.load_slots.Statement.{statement}
 use Rattle.unify_slots.proofs.load_slots.Tie as tie
 
 abbrev Inv-loop : tie.InvT-loop
-Inv-loop image layout ks₀ ms₀ ns₀ s j₀ ks ms ns j = Loads (modelOf image) s ks₀ ms₀ ns₀ ks ms ns j
+Inv-loop image layout table₀ n j₀ table j = Loads (modelOf image) n table₀ table j
 
 abbrev μ-loop : tie.MeasureT-loop
-μ-loop image layout ks₀ ms₀ ns₀ s j₀ ks ms ns j = s - j
+μ-loop image layout table₀ n j₀ table j = n - j
 
 ruleset mine = (loads-start, loads-inside, loads-room, loads-turn, loads-done, counts-fit, needs)
 
@@ -23,8 +23,6 @@ load-slots-spec =
     (λ c. search mine)
     (λ c. search mine)
     (λ c κs. (search needs, search mine, search mine))
-    (λ c. search mine)
-    (λ c. search mine)
     (λ c. search mine)
     (λ c. search mine)
     (λ c. search mine)

@@ -14,4 +14,4 @@ number-spec =
     (λ c. search needs)
     (λ c. search needs)
     (λ c. search needs)
-    (λ c. sym (num-view _ _ _ _ _ _ (omega arith) (omega arith))))
+    (λ c. sym (num-view _ _ _ _ (omega arith) (omega arith))))

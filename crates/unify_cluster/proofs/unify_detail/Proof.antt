@@ -1,14 +1,14 @@
--- `unify_cluster::detail` meets its contract.
+-- `unify_cluster::unify_detail` meets its contract.
 use borrow.Author.Needs.{needs}
 use borrow.Author.Tests.{not-true}
 use Rattle.unify_cluster.proofs.Laws.{detail-skip, detail-fault, detail-none}
-use Rattle.unify_cluster.proofs.detail.Statement.{statement}
-use Rattle.unify_cluster.proofs.detail.Tie as tie
+use Rattle.unify_cluster.proofs.unify_detail.Statement.{statement}
+use Rattle.unify_cluster.proofs.unify_detail.Tie as tie
 
 ruleset mine = (detail-fault, detail-none, needs)
 
-pub detail-spec : {M : Type 1} → statement M
-detail-spec =
+pub unify-detail-spec : {M : Type 1} → statement M
+unify-detail-spec =
     tie.close
     (tie.spec
     (λ c κs. search needs)
@@ -17,8 +17,6 @@ detail-spec =
     (λ c κs. search needs)
     (λ c. search needs)
     (λ c. search needs)
-    (λ c. search needs)
     (λ c. search mine)
-    (λ c. search needs)
     (λ c. search needs)
     (λ c. search mine))

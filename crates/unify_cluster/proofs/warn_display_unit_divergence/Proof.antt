@@ -1,14 +1,14 @@
--- `unify_cluster::display` meets its contract.
+-- `unify_cluster::warn_display_unit_divergence` meets its contract.
 use borrow.Author.Needs.{needs}
 use borrow.Author.Tests.{not-true}
 use Rattle.unify_cluster.proofs.Laws.{display-skip, display-none, display-differ}
-use Rattle.unify_cluster.proofs.display.Statement.{statement}
-use Rattle.unify_cluster.proofs.display.Tie as tie
+use Rattle.unify_cluster.proofs.warn_display_unit_divergence.Statement.{statement}
+use Rattle.unify_cluster.proofs.warn_display_unit_divergence.Tie as tie
 
 ruleset mine = (display-none, display-differ, needs)
 
-pub display-spec : {M : Type 1} → statement M
-display-spec =
+pub warn-display-unit-divergence-spec : {M : Type 1} → statement M
+warn-display-unit-divergence-spec =
     tie.close
     (tie.spec
     (λ c κs. search needs)
