@@ -20,7 +20,7 @@ use Rattle.oce_diag.specs.declared.DiagCode.{DiagCode}
 use Rattle.oce_diag.specs.declared.DiagCode.the-variants.{UnitQuantityMismatch, BoundMismatch, DisplayUnitDivergence}
 use Rattle.oce_diag.specs.declared.Diagnostic.{Diagnostic}
 use Rattle.oce_diag.specs.declared.Subject.{Subject}
-use Rattle.oce_diag.specs.Putting.{total, Put}
+use Rattle.oce_diag.specs.Putting.{Countable, Adds, Put}
 use Rattle.oce_diag.proofs.Putting.{put-none, put-then, emits-start, emits-turn, emits-put, emits-length}
 use Rattle.unify.specs.Slots.{unifiedDetails, displayDetail, bitOf}
 use Rattle.unify.specs.Unify.{declared, fill, conflict, conflictCode, fillFaults, displayFaults, fills, detailFaults, clusterFaults}
@@ -58,7 +58,7 @@ module _ {b b′ : List ℕ} {c c′ : Counted} {e : Diagnostic} (p : Put b c (e
 -- ---- one detail
 
 module _ {m : Model} {r d n : ℕ} {js table table′ : List ℕ} {b : List ℕ} {c : Counted} {t : Bool} (v : Settled m d n js table table′ t) where
-  pub detail-fault : {b′ : List ℕ} {c′ : Counted} → Put b c (error (conflictCode d) 6 d (subjectOf (connector m r)) r ∷ []) b′ c′ → total c′ ≤ total c + 1 → t ≡ true
+  pub detail-fault : {b′ : List ℕ} {c′ : Counted} → Put b c (error (conflictCode d) 6 d (subjectOf (connector m r)) r ∷ []) b′ c′ → Adds 1 c c′ → t ≡ true
       → Detailed m r d n js table table′ b c b′ c′
   unfolding fillFaults
   detail-fault p l e = record { slots = v .slots; put = rw (← v .told, e) p; few = l }
@@ -107,8 +107,11 @@ module _ {m : Model} {r n : ℕ} {js table : List ℕ} {b : List ℕ} {c : Count
     pub details-report : length b′ ≡ length b
     details-report = emits-length (v .emits)
 
-    pub details-few : total c ≤ 2000000 → total c′ ≤ 3000000
-    details-few h = omega (arith, v .emits .few, v .emits .within)
+    pub details-adds : Adds unifiedDetails c c′
+    details-adds = omega (arith, v .emits .few, v .emits .within)
+
+    pub details-countable : Countable unifiedDetails c → i < unifiedDetails → Countable 1 c′
+    details-countable h l = omega (arith, v .emits .few)
 
   -- ---- detail 7, and the whole cluster
 
@@ -116,7 +119,7 @@ module _ {m : Model} {r n : ℕ} {js table : List ℕ} {b : List ℕ} {c : Count
   unfolding displayFaults
   display-none et e = record { put = rw (← et, e) put-none; few = omega arith }
 
-  pub display-differ : {b′ : List ℕ} {c′ : Counted} {t : Bool} → Put b c (warning DisplayUnitDivergence 6 displayDetail (subjectOf (connector m r)) r ∷ []) b′ c′ → total c′ ≤ total c + 1
+  pub display-differ : {b′ : List ℕ} {c′ : Counted} {t : Bool} → Put b c (warning DisplayUnitDivergence 6 displayDetail (subjectOf (connector m r)) r ∷ []) b′ c′ → Adds 1 c c′
       → t ≡ conflict m displayDetail (declared displayDetail (view n table) js) → t ≡ true → Displayed m r n js table b c b′ c′
   unfolding displayFaults
   display-differ p l et e = record { put = rw (← et, e) p; few = l }

@@ -25,13 +25,13 @@ ghost use Rattle.oce_model.specs.Model.{modelOf, connector};
 ghost use Rattle.image_accept.specs.Layout.{Laid};
 ghost use Rattle.oce_diag.specs.Diagnostics.{subjectOf, error, warning};
 ghost use Rattle.oce_diag.specs.declared.DiagCode.the-variants.{DisplayUnitDivergence};
-ghost use Rattle.oce_diag.specs.Putting.{total, Put};
+ghost use Rattle.oce_diag.specs.Putting.{Put, Countable, Adds};
 ghost use Rattle.unify.specs.Slots.{unifiedDetails, displayDetail};
 ghost use Rattle.unify.specs.Unify.{conflictCode};
 ghost use Rattle.unify_slots.specs.Table.{view};
 ghost use Rattle.unify_seen.specs.Seen.{Sees};
 ghost use Rattle.unify_settle.specs.Settle.{Ready};
-ghost use Rattle.unify_cluster.specs.Clusters.{Unseen, Detailed, Details, Displayed, Clustered};
+ghost use Rattle.unify_cluster.specs.Clusters.{mostClusterFaults, Unseen, Detailed, Details, Displayed, Clustered};
 
 const RULE: u8 = 6;
 
@@ -71,8 +71,8 @@ fn tell_conflict(
     report: &mut [u8],
     counted: Counted,
 ) -> Counted
-    requires { ⌜ Laid (now image) layout × (root .0 < layout .connectors .count) × (detail ≤ displayDetail) × (total counted ≤ 3000000) ⌝ }
-    ensures { λ c. ⌜ Put (now (report .entry)) counted (error (conflictCode detail) 6 detail (subjectOf (connector (modelOf (now (image .entry))) (root .0))) (root .0) ∷ []) (now (report .exit)) c × (total c ≤ total counted + 1) ⌝ }
+    requires { ⌜ Laid (now image) layout × (root .0 < layout .connectors .count) × (detail ≤ displayDetail) × Countable 1 counted ⌝ }
+    ensures { λ c. ⌜ Put (now (report .entry)) counted (error (conflictCode detail) 6 detail (subjectOf (connector (modelOf (now (image .entry))) (root .0))) (root .0) ∷ []) (now (report .exit)) c × Adds 1 counted c ⌝ }
 {
     let s = subject(image, layout, root);
     let code = conflict_code(detail);
@@ -88,8 +88,8 @@ fn tell_divergence(
     report: &mut [u8],
     counted: Counted,
 ) -> Counted
-    requires { ⌜ Laid (now image) layout × (root .0 < layout .connectors .count) × (total counted ≤ 3000000) ⌝ }
-    ensures { λ c. ⌜ Put (now (report .entry)) counted (warning DisplayUnitDivergence 6 displayDetail (subjectOf (connector (modelOf (now (image .entry))) (root .0))) (root .0) ∷ []) (now (report .exit)) c × (total c ≤ total counted + 1) ⌝ }
+    requires { ⌜ Laid (now image) layout × (root .0 < layout .connectors .count) × Countable 1 counted ⌝ }
+    ensures { λ c. ⌜ Put (now (report .entry)) counted (warning DisplayUnitDivergence 6 displayDetail (subjectOf (connector (modelOf (now (image .entry))) (root .0))) (root .0) ∷ []) (now (report .exit)) c × Adds 1 counted c ⌝ }
 {
     let s = subject(image, layout, root);
     let w = warning(
@@ -119,7 +119,7 @@ fn unify_detail<'a>(
     report: &mut [u8],
     counted: Counted,
 ) -> Counted
-    requires { ⌜ Ready (now image) layout (now texts) «slot_count» (now table) (now members) × (root .0 < layout .connectors .count) × (detail ≤ displayDetail) × (total counted ≤ 3000000)
+    requires { ⌜ Ready (now image) layout (now texts) «slot_count» (now table) (now members) × (root .0 < layout .connectors .count) × (detail ≤ displayDetail) × Countable 1 counted
         × Unseen detail «slot_count» (now table) (now members) (found .real) (found .integer) ⌝ }
     ensures { λ c. ⌜ Detailed (modelOf (now (image .entry))) (root .0) detail «slot_count» (now (members .entry)) (now (table .entry)) (now (table .exit))
         (now (report .entry)) counted (now (report .exit)) c ⌝ }
@@ -146,11 +146,11 @@ fn details<'a>(
     report: &mut [u8],
     counted: Counted,
 ) -> Counted
-    requires { ⌜ Ready (now image) layout (now texts) «slot_count» (now table) (now members) × (root .0 < layout .connectors .count) × (total counted ≤ 2000000)
+    requires { ⌜ Ready (now image) layout (now texts) «slot_count» (now table) (now members) × (root .0 < layout .connectors .count) × Countable unifiedDetails counted
         × Sees (view «slot_count» (now table)) (now members) (found .real) (found .integer) (length (now members)) ⌝ }
     ensures { λ c. ⌜ Details (modelOf (now (image .entry))) (root .0) «slot_count» (now (members .entry)) (now (table .entry)) (now (table .exit))
         (now (report .entry)) counted (now (report .exit)) c unifiedDetails
-        × Ready (now (image .entry)) layout (now (texts .entry)) «slot_count» (now (table .exit)) (now (members .entry)) × (total c ≤ 3000000)
+        × Ready (now (image .entry)) layout (now (texts .entry)) «slot_count» (now (table .exit)) (now (members .entry)) × Adds unifiedDetails counted c
         × Unseen displayDetail «slot_count» (now (table .exit)) (now (members .entry)) (found .real) (found .integer) ⌝ }
 {
     let mut c = counted;
@@ -187,7 +187,7 @@ fn warn_display_unit_divergence<'a>(
     report: &mut [u8],
     counted: Counted,
 ) -> Counted
-    requires { ⌜ Ready (now image) layout (now texts) «slot_count» (now table) (now members) × (root .0 < layout .connectors .count) × (total counted ≤ 3000000)
+    requires { ⌜ Ready (now image) layout (now texts) «slot_count» (now table) (now members) × (root .0 < layout .connectors .count) × Countable 1 counted
         × Unseen displayDetail «slot_count» (now table) (now members) (found .real) (found .integer) ⌝ }
     ensures { λ c. ⌜ Displayed (modelOf (now (image .entry))) (root .0) «slot_count» (now (members .entry)) (now (table .entry)) (now (report .entry)) counted (now (report .exit)) c ⌝ }
 {
@@ -221,7 +221,7 @@ fn all_details<'a>(
     report: &mut [u8],
     counted: Counted,
 ) -> Counted
-    requires { ⌜ Ready (now image) layout (now texts) «slot_count» (now table) (now members) × (root .0 < layout .connectors .count) × (total counted ≤ 2000000)
+    requires { ⌜ Ready (now image) layout (now texts) «slot_count» (now table) (now members) × (root .0 < layout .connectors .count) × Countable mostClusterFaults counted
         × Sees (view «slot_count» (now table)) (now members) (found .real) (found .integer) (length (now members)) ⌝ }
     ensures { λ c. ⌜ Clustered (modelOf (now (image .entry))) (root .0) «slot_count» (now (members .entry)) (now (table .entry)) (now (table .exit))
         (now (report .entry)) counted (now (report .exit)) c ⌝ }
@@ -264,7 +264,7 @@ pub fn cluster<'a>(
     report: &mut [u8],
     counted: Counted,
 ) -> Counted
-    requires { ⌜ Ready (now image) layout (now texts) «slot_count» (now table) (now members) × (root .0 < layout .connectors .count) × (total counted ≤ 2000000) ⌝ }
+    requires { ⌜ Ready (now image) layout (now texts) «slot_count» (now table) (now members) × (root .0 < layout .connectors .count) × Countable mostClusterFaults counted ⌝ }
     ensures { λ c. ⌜ Clustered (modelOf (now (image .entry))) (root .0) «slot_count» (now (members .entry)) (now (table .entry)) (now (table .exit))
         (now (report .entry)) counted (now (report .exit)) c ⌝ }
 {
