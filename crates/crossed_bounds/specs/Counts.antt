@@ -4,15 +4,14 @@ use Prim.Native.Nat.{ℕ}
 use mathlib.Core.Path.{_≡_}
 use mathlib.Core.Bool.{Bool, true, false, not, _&&_, _||_}
 use mathlib.Core.List.{List}
-use lib.ListN.{length}
-use lib.Dec.{eqb, ltb}
+use lib.Dec.{eqb}
 use Rattle.base.specs.Lists.{any, all}
 use Rattle.oce_model.specs.Format.{realKind, integerKind}
 use Rattle.oce_model.specs.Model.{Model}
 use Rattle.crossed_bounds.specs.Ranges.{crossedBounds}
 use Rattle.crossed_bounds.specs.Values.{Datum, ofKind, inside}
-use Rattle.crossed_bounds.specs.Groups.{Group, members}
-use Rattle.crossed_bounds.specs.CrossedBounds.{memberExternal, memberRanges}
+use Rattle.crossed_bounds.specs.Groups.{Group}
+use Rattle.crossed_bounds.specs.CrossedBounds.{memberRanges, shared}
 use Rattle.crossed_bounds.specs.declared.Bounds.{Bounds}
 use Rattle.crossed_bounds.specs.declared.Bounds.the-variants.{Real, Integer}
 use Rattle.crossed_bounds.specs.declared.Range.{Range}
@@ -33,7 +32,7 @@ oneKind rs = all (plain realKind) rs || all (plain integerKind) rs
 
 -- 'A group counts if ..'
 unfoldable pub counts : Model → Group → Bool
-counts m g = any (memberExternal m) (members g) && ltb 1 (length (members g)) && oneKind (memberRanges m g)
+counts m g = shared m g && oneKind (memberRanges m g)
 
 -- the value lies in every range
 unfoldable pub insideAll : Datum → List Range → Bool

@@ -53,13 +53,16 @@ groups m =
 unfoldable pub memberRanges : Model → Group → List Range
 memberRanges m g = map (λ x. rangeOf m (memberAttrs m x)) (members g)
 
+-- 'a member connector's id is external, it has two or more members'
+abbrev pub shared : Model → Group → Bool
+shared m g = any (memberExternal m) (members g) && ltb 1 (length (members g))
+
 -- 'A group counts if a member connector's id is external, it has two or more members, all have an uncrossed range and one kind.
 -- It is reported exactly if no value lies in every range (place: members; subject: the first connector's text)'
 unfoldable pub groupFaults : Model → Group → List Diagnostic
 groupFaults m g =
-    let n = length (members g) in
-    only (any (memberExternal m) (members g) && ltb 1 n && crossed (combined (memberRanges m g)))
-    (error CrossedBounds 5 4 (Text (memberIri m (g .first))) n)
+    only (shared m g && crossed (combined (memberRanges m g)))
+    (error CrossedBounds 5 4 (Text (memberIri m (g .first))) (length (members g)))
 
 unfoldable pub groupsFaults : Model → List Group → List Diagnostic
 groupsFaults m [] = []

@@ -34,7 +34,7 @@ use Rattle.crossed_buckets.specs.Buckets.{isCrowded, crowdedBelow, crowdedMembe
 use Rattle.crossed_domains.specs.Runs.{runs}
 use Rattle.crossed_domains.proofs.Whole.{sorted-faults, quiet}
 use Rattle.crossed_domains.proofs.Crowded.{crowded-faults}
-use Rattle.crossed_domains.specs.Pass.{opened, grown, counts, passFaults, sameKey, Below, AllMembers, Stepped}
+use Rattle.crossed_domains.specs.Pass.{opened, grown, isReported, passFaults, sameKey, Below, AllMembers, Stepped}
 use Rattle.crossed_domains.specs.declared.Pass.{Pass}
 
 -- ---- the open group
@@ -43,19 +43,19 @@ pub opened-is : (c : Counted) (x : ℕ) (e : Bool) (r : Range) {k : Range} → k
 unfolding opened
 opened-is c x e r f = rw f
 
-pub counts-inner : (p : Pass) → p .external ≡ false → false ≡ counts p
-unfolding counts
-counts-inner p e = rw e
+pub reported-inner : (p : Pass) → p .external ≡ false → false ≡ isReported p
+unfolding isReported
+reported-inner p e = rw e
 
-pub counts-few : (p : Pass) → p .external ≡ true → p .members ≤ 1 → false ≡ counts p
-unfolding counts
-counts-few p e h = rw (e, le-ltb 1 (p .members) h)
+pub reported-few : (p : Pass) → p .external ≡ true → p .members ≤ 1 → false ≡ isReported p
+unfolding isReported
+reported-few p e h = rw (e, le-ltb 1 (p .members) h)
 
-pub counts-range : (p : Pass) {r : Bool} → p .external ≡ true → 1 < p .members → r ≡ crossed (p .kept) → r ≡ counts p
-unfolding counts
-counts-range p e h f = rw (e, lt-ltb 1 (p .members) h) f
+pub reported-range : (p : Pass) {r : Bool} → p .external ≡ true → 1 < p .members → r ≡ crossed (p .kept) → r ≡ isReported p
+unfolding isReported
+reported-range p e h f = rw (e, lt-ltb 1 (p .members) h) f
 
-pub close-put : (m : Model) (p : Pass) {t : Bool} {i : ℕ} {d : Diagnostic} {b b′ : List ℕ} {r : Counted} → Put b (p .counted) (only t d) b′ r → t ≡ counts p
+pub close-put : (m : Model) (p : Pass) {t : Bool} {i : ℕ} {d : Diagnostic} {b b′ : List ℕ} {r : Counted} → Put b (p .counted) (only t d) b′ r → t ≡ isReported p
     → d ≡ error CrossedBounds 5 4 (Text i) (p .members) → i ≡ memberIri m (p .first) → Put b (p .counted) (passFaults m p) b′ r
 unfolding passFaults
 close-put m p q e f g = rw (← e, ← g, ← f) q

@@ -23,7 +23,7 @@ use Rattle.crossed_bounds.specs.declared.Range.{Range}
 use Rattle.crossed_bounds.proofs.Combined.{combined-more}
 use Rattle.crossed_members.specs.Members.{memberRange}
 use Rattle.crossed_domains.specs.Runs.{runsFrom, runs}
-use Rattle.crossed_domains.specs.Pass.{opened, grown, counts, passFaults, sameKey, AllMembers, Small, Stepped}
+use Rattle.crossed_domains.specs.Pass.{opened, grown, isReported, passFaults, sameKey, AllMembers, Small, Stepped}
 use Rattle.crossed_domains.specs.declared.Pass.{Pass}
 
 or-none : (t : Bool) → (t || false) ≡ t
@@ -55,7 +55,7 @@ module _ (m : Model) where
       rw (long, external-more g x, kept-more g x)
 
   faults-is : (c : Counted) (g : Group) → passFaults m (passOf c g) ≡ groupFaults m g
-  unfolding passFaults counts passOf groupFaults
+  unfolding passFaults isReported passOf groupFaults
   faults-is c g = refl
 
   faults-append : (fs gs : List Group) → groupsFaults m (fs ++ gs) ≡ groupsFaults m fs ++ groupsFaults m gs

@@ -33,12 +33,12 @@ opened c x e r = record { counted = c; first = x; members = 1; external = e; kep
 unfoldable pub grown : Pass → Bool → Range → Pass
 grown p e r = record { counted = p .counted; first = p .first; members = p .members + 1; external = p .external || e; kept = takeIn (p .kept) r }
 
--- the open group is reported
-unfoldable pub counts : Pass → Bool
-counts p = p .external && ltb 1 (p .members) && crossed (p .kept)
+-- the open group is to be reported
+unfoldable pub isReported : Pass → Bool
+isReported p = p .external && ltb 1 (p .members) && crossed (p .kept)
 
 unfoldable pub passFaults : Model → Pass → List Diagnostic
-passFaults m p = only (counts p) (error CrossedBounds 5 4 (Text (memberIri m (p .first))) (p .members))
+passFaults m p = only (isReported p) (error CrossedBounds 5 4 (Text (memberIri m (p .first))) (p .members))
 
 -- two members have one key
 unfoldable pub sameKey : Model → ℕ → ℕ → Bool

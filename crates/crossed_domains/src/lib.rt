@@ -36,7 +36,7 @@ ghost use Rattle.crossed_bounds.specs.CrossedBounds.{memberIri, memberKey, grou
 ghost use Rattle.crossed_members.specs.Members.{memberCount, isMember};
 ghost use Rattle.crossed_buckets.specs.Buckets.{crowdedMembers};
 ghost use Rattle.crossed_domains.specs.Runs.{runs};
-ghost use Rattle.crossed_domains.specs.Pass.{fewMembers, opened, grown, counts, passFaults, sameKey, AllMembers, Below, Small, Stepped};
+ghost use Rattle.crossed_domains.specs.Pass.{fewMembers, opened, grown, isReported, passFaults, sameKey, AllMembers, Below, Small, Stepped};
 
 // The most members that an image has: those of the table's last column, of connectors and of boundary
 // inputs.
@@ -104,7 +104,7 @@ fn grow(p: Pass, external: bool, range: Range) -> Pass
 
 // It is to be reported.
 fn to_report(p: Pass) -> bool
-    ensures { λ r. ⌜ r ≡ counts p ⌝ }
+    ensures { λ r. ⌜ r ≡ isReported p ⌝ }
 {
     if !p.external {
         return false;
