@@ -5,7 +5,7 @@ use mathlib.Core.Path.{_≡_}
 use mathlib.Core.Bool.{Bool, true, false, not, _&&_, _||_}
 use mathlib.Core.List.{List}
 use lib.Dec.{eqb}
-use Rattle.base.specs.Lists.{any, all}
+use Rattle.base.specs.Lists.{all}
 use Rattle.oce_model.specs.Format.{realKind, integerKind}
 use Rattle.oce_model.specs.Model.{Model}
 use Rattle.crossed_bounds.specs.Ranges.{crossedBounds}

@@ -14,6 +14,7 @@ use Rattle.oce_model.specs.Model.{Connector, BoundaryInput, BoundaryOutput, Mod
 use Rattle.oce_model.specs.Refusals.{refusal}
 use Rattle.oce_diag.specs.Diagnostics.{hasError, errors, warnings}
 use Rattle.oce_diag.specs.Encoding.{reportBytes}
+use Rattle.structural.specs.Degrees.{leadsTo}
 use Rattle.crossed_bounds.specs.Ranges.{rangeOf, finiteEnd}
 use Rattle.outcome.specs.Filled.{filledOf}
 use Rattle.outcome.specs.Answer.{reportOf}
@@ -25,7 +26,7 @@ use Rattle.outcome.specs.declared.Answer.the-variants.{Checked}
 
 -- a connection leads to connector i. 'An input without a connection is no connection's `to`'
 unfoldable pub connected : Model → ℕ → Bool
-connected m i = below (connectionCount m) (λ k. eqb (connection m k .to) i)
+connected m i = below (connectionCount m) (leadsTo m i)
 
 -- a value is chosen for connector i: 'one value for each output and each input without a connection'
 unfoldable pub chosen : Model → ℕ → Bool
@@ -36,7 +37,7 @@ chosen m i = isConnector m i && (not (isIn (connector m i)) || not (connected m 
 unfoldable pub arrivals : Model → (ℕ → Datum) → ℕ → List Datum
 arrivals m x i =
     cond (connected m i)
-    (each (connectionCount m) (λ k. only (eqb (connection m k .to) i && chosen m (connection m k .from)) (x (connection m k .from))))
+    (each (connectionCount m) (λ k. only (leadsTo m i k && chosen m (connection m k .from)) (x (connection m k .from))))
     (x i ∷ [])
 
 -- 'a boundary output gets the value chosen for its source, if any'

@@ -6,9 +6,13 @@ use Rattle.base.specs.Lists.{tally, any}
 use Rattle.oce_model.specs.Model.{Model, connection, connectionCount, isConnector}
 use Rattle.oce_model.specs.declared.Connection.{Connection}
 
+-- connection k leads to connector i
+abbrev pub leadsTo : Model → ℕ → ℕ → Bool
+leadsTo m i k = eqb (connection m k .to) i
+
 -- The in-degree of connector i: document 01, rule 3, 'counts every connection by `to`, even one whose `from` is out of range'. It is 0 where i is no connector's number.
 unfoldable pub degree : Model → ℕ → ℕ
-degree m i = cond (isConnector m i) (tally (connectionCount m) (λ k. eqb (connection m k .to) i)) 0
+degree m i = cond (isConnector m i) (tally (connectionCount m) (leadsTo m i)) 0
 
 -- an id is among the external inputs
 unfoldable pub external : Model → ℕ → Bool
