@@ -12,7 +12,7 @@ use mir.Facts.{toZ-ofZ}
 use borrow.Author.Tests.{eq-eqb, ne-eqb}
 use Rattle.numbers.specs.Bytes.{bit, signed64, real64}
 use Rattle.oce_model.specs.Format.{realKind, integerKind, minBit, maxBit}
-use Rattle.oce_model.specs.Attributes.{Attrs, attrsAt, num, declaredAt, marked}
+use Rattle.oce_model.specs.Attributes.{Attrs, num, declaredAt, marked}
 use Rattle.oce_model.specs.Model.{Model, modelOf}
 use Rattle.oce_model.specs.declared.RealAttrs.{RealAttrs}
 use Rattle.oce_model.specs.declared.IntAttrs.{IntAttrs}
@@ -91,19 +91,19 @@ integer-same m a = rw (arm (bit (a .marks) minBit) (num a minBit) (m .integerMin
 
 -- ---- any kind
 
-module _ (s : List ℕ) (at : ℕ) {k : ℕ} (K : k ≡ attrsAt s at .kind) where
-  pub range-real : {a : RealAttrs} {r : Range} → k ≡ realKind → r ≡ realRead a → a ≡ realAttrs (attrsAt s at) → r ≡ rangeOf (modelOf s) (attrsAt s at)
+module _ (s : List ℕ) (a : Attrs) {k : ℕ} (K : k ≡ a .kind) where
+  pub range-real : {x : RealAttrs} {r : Range} → k ≡ realKind → r ≡ realRead x → x ≡ realAttrs a → r ≡ rangeOf (modelOf s) a
   unfolding rangeOf
-  range-real e f g = rw (eq-eqb (attrsAt s at .kind) realKind (sym K ∙ e)) (f ∙ rw g (real-same (attrsAt s at)))
+  range-real e f g = rw (eq-eqb (a .kind) realKind (sym K ∙ e)) (f ∙ rw g (real-same a))
 
   module _ (o : k ≢ realKind) where
-    pub range-integer : {l : Layout} {a : IntAttrs} {r : Range} → Laid s l → k ≡ integerKind → r ≡ integerRead a (back (l .min)) (back (l .max)) → a ≡ intAttrs (attrsAt s at)
-        → SFits w64 (l .min) → SFits w64 (l .max) → r ≡ rangeOf (modelOf s) (attrsAt s at)
+    pub range-integer : {l : Layout} {x : IntAttrs} {r : Range} → Laid s l → k ≡ integerKind → r ≡ integerRead x (back (l .min)) (back (l .max)) → x ≡ intAttrs a
+        → SFits w64 (l .min) → SFits w64 (l .max) → r ≡ rangeOf (modelOf s) a
     unfolding rangeOf layoutOf
     range-integer h e f g x y =
-        rw (ne-eqb (attrsAt s at .kind) realKind (λ q. o (K ∙ q)), eq-eqb (attrsAt s at .kind) integerKind (sym K ∙ e))
-        ((rw (toZ-ofZ x, toZ-ofZ y, g) at f) ∙ rw (h .layout) (integer-same (modelOf s) (attrsAt s at)))
+        rw (ne-eqb (a .kind) realKind (λ q. o (K ∙ q)), eq-eqb (a .kind) integerKind (sym K ∙ e))
+        ((rw (toZ-ofZ x, toZ-ofZ y, g) at f) ∙ rw (h .layout) (integer-same (modelOf s) a))
 
-    pub range-none : k ≢ integerKind → Absent ≡ rangeOf (modelOf s) (attrsAt s at)
+    pub range-none : k ≢ integerKind → Absent ≡ rangeOf (modelOf s) a
     unfolding rangeOf
-    range-none p = rw (ne-eqb (attrsAt s at .kind) realKind (λ q. o (K ∙ q)), ne-eqb (attrsAt s at .kind) integerKind (λ q. p (K ∙ q)))
+    range-none p = rw (ne-eqb (a .kind) realKind (λ q. o (K ∙ q)), ne-eqb (a .kind) integerKind (λ q. p (K ∙ q)))

@@ -7,8 +7,8 @@ use image_accept::Layout;
 use image_attributes::attrs_kind;
 use image_attributes::int_attrs;
 use image_attributes::real_attrs;
-use image_contents::is_set;
 use numbers::is_finite;
+use numbers::is_set;
 use oce_model::INTEGER_KIND;
 use oce_model::IntAttrs;
 use oce_model::MAX_BIT;
@@ -16,7 +16,6 @@ use oce_model::MIN_BIT;
 use oce_model::REAL_KIND;
 use oce_model::RealAttrs;
 ghost use mathlib.Core.Path.{_≡_};
-ghost use Rattle.numbers.specs.Bytes.{byteRange};
 ghost use Rattle.crossed_bounds.specs.Ranges.{crossedEnds, crossedBounds, crossed, higher, lower, higherInteger, lowerInteger, intersect, uncrossed, intersectWith, takeIn, rangeOf};
 ghost use mathlib.Core.Bool.{cond};
 ghost use Prim.Native.Nat.{_+_, _<_, _≤_};
@@ -174,7 +173,7 @@ pub fn take_in(kept: Range, r: Range) -> Range
     }
 }
 
-// The range of the attributes at an offset of an image: the Rust's `Bounds::of`.
+// ---- the range of attributes: the Rust's `Bounds::of`
 
 // ---- Real
 
@@ -198,8 +197,8 @@ fn end_fine(set: bool, x: f64) -> bool
     true
 }
 
-fn real_range(a: RealAttrs) -> Range
-    requires { ⌜ a .marks < byteRange ⌝ }
+// The range of Real attributes.
+pub fn real_range(a: RealAttrs) -> Range
     ensures { λ r. ⌜ r ≡ realRead a ⌝ }
 {
     let low = is_set(a.marks, MIN_BIT);
@@ -227,8 +226,8 @@ fn end_or(set: bool, x: i64, default: i64) -> i64
     default
 }
 
-fn integer_range(a: IntAttrs, min: i64, max: i64) -> Range
-    requires { ⌜ a .marks < byteRange ⌝ }
+// The range of Integer attributes; min and max are the defaults.
+pub fn integer_range(a: IntAttrs, min: i64, max: i64) -> Range
     ensures { λ r. ⌜ r ≡ integerRead a min max ⌝ }
 {
     let low = is_set(a.marks, MIN_BIT);

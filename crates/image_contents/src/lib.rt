@@ -4,6 +4,7 @@ use numbers::at16;
 use numbers::at32;
 use numbers::at64;
 use numbers::byte_at;
+use numbers::is_set;
 use oce_model::ATTRS_DISPLAY_UNIT_AT;
 use oce_model::ATTRS_MARKS_AT;
 use oce_model::ATTRS_MAX_AT;
@@ -44,7 +45,6 @@ use oce_model::UNIT_BIT;
 use oce_model::VERSION;
 ghost use mathlib.Core.Path.{_≡_};
 ghost use Prim.Native.Nat.{_+_, _<_, _≤_};
-ghost use Rattle.numbers.specs.Bytes.{byteRange, bit};
 ghost use Rattle.image_contents.specs.Marks.{notOfInteger, badMarks, strayPart, straying, badTextNumber, missing, badType};
 ghost use Rattle.oce_model.specs.Format.{longestImage, connectorAttrs};
 ghost use Rattle.oce_model.specs.Attributes.{attrsAt};
@@ -54,17 +54,9 @@ ghost use Rattle.oce_model.specs.Refusals.{badHead, badConnector, badAttrs, bad
 // ---- numbers of a record, however they were read. Where they are as good as random, both sides of a
 // test are computed, so that nothing has to be foreseen
 
-// Bit p of a byte is set.
-pub fn is_set(marks: usize, p: usize) -> bool
-    requires { ⌜ (marks < byteRange) × (p < 8) ⌝ }
-    ensures { λ r. ⌜ r ≡ bit marks p ⌝ }
-{
-    (marks >> p) % 2 == 1
-}
-
 // The number under bit p, if the bit isn't set, else 0.
 fn stray_part(marks: usize, p: usize, number: u64) -> u64
-    requires { ⌜ (marks < byteRange) × (p < 8) ⌝ }
+    requires { ⌜ p < 8 ⌝ }
     ensures { λ r. ⌜ r ≡ strayPart marks p number ⌝ }
 {
     if is_set(marks, p) {
@@ -83,7 +75,6 @@ pub fn is_straying(
     max: u64,
     nominal: u64,
 ) -> bool
-    requires { ⌜ marks < byteRange ⌝ }
     ensures { λ r. ⌜ r ≡ straying marks quantity unit display min max nominal ⌝ }
 {
     let strays = stray_part(marks, QUANTITY_BIT, quantity as u64)
@@ -97,7 +88,6 @@ pub fn is_straying(
 
 // An Integer sets only min and max.
 fn bad_integer_marks(marks: usize) -> bool
-    requires { ⌜ marks < byteRange ⌝ }
     ensures { λ r. ⌜ r ≡ notOfInteger marks ⌝ }
 {
     is_set(marks, QUANTITY_BIT)
@@ -109,7 +99,6 @@ fn bad_integer_marks(marks: usize) -> bool
 
 // The kind is none, bit 7 stands without bit 6, or the set bits are not the kind's.
 pub fn bad_marks(kind: usize, marks: usize) -> bool
-    requires { ⌜ marks < byteRange ⌝ }
     ensures { λ r. ⌜ r ≡ badMarks kind marks ⌝ }
 {
     (ENUM_KIND < kind)
@@ -120,7 +109,7 @@ pub fn bad_marks(kind: usize, marks: usize) -> bool
 
 // Of n texts, none has a number that is in use where its bit is set.
 fn bad_text_number(n: usize, marks: usize, p: usize, number: usize) -> bool
-    requires { ⌜ (marks < byteRange) × (p < 8) ⌝ }
+    requires { ⌜ p < 8 ⌝ }
     ensures { λ r. ⌜ r ≡ badTextNumber n marks p number ⌝ }
 {
     is_set(marks, p) & (n <= number)
@@ -128,7 +117,6 @@ fn bad_text_number(n: usize, marks: usize, p: usize, number: usize) -> bool
 
 // One of the text numbers of attributes that are in use is no text's.
 pub fn is_missing(n: usize, marks: usize, quantity: usize, unit: usize, display: usize) -> bool
-    requires { ⌜ marks < byteRange ⌝ }
     ensures { λ r. ⌜ r ≡ missing n marks quantity unit display ⌝ }
 {
     bad_text_number(n, marks, QUANTITY_BIT, quantity)

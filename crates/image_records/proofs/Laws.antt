@@ -29,7 +29,7 @@ use Rattle.oce_model.proofs.Records.{nth-at, connector-at, connection-at, exter
 use Rattle.image_accept.specs.Layout.{Laid, Tabled, sectionOf, layoutOf, offsetsOf}
 use Rattle.image_accept.specs.declared.Layout.{Layout}
 use Rattle.image_accept.proofs.Rooms.{accepted-room}
-use Rattle.image_records.specs.Records.{blockRead, connectorRead, outputRead}
+use Rattle.image_records.specs.Records.{blockRead, connectorRead, connectionRead, outputRead}
 
 -- a record of a kind of fixed length stands inside the image
 placed : (s : List ℕ) → Accepted s → (t z i : ℕ) → t ≢ textTag → t ≢ blockTag → leadingBytes + fixedLength t ≡ z → i < length (ofTag t (fields s)) → startOf t s + z * i ≤ longestImage
@@ -172,9 +172,9 @@ module _ {s : List ℕ} {l : Layout} (h : Laid s l) where
           rw (h .layout) (sym (connection-at s acc i n))
 
       pub connection-read : {at a b : ℕ} → at ≡ l .connections .start + connectionSize * i → a ≡ le32 s (at + 3) → b ≡ le32 s (at + 7)
-          → record { from = a; to = b } ≡ connection (modelOf s) i
-      unfolding connectionAt
-      connection-read e p q = rw (p, q, e) connection-is
+          → record { from = record { 0 = a }; to = record { 0 = b } } ≡ connectionRead (connection (modelOf s) i)
+      unfolding connectionAt connectionRead
+      connection-read e p q = rw (p, q, e) (ap connectionRead connection-is)
 
     -- ---- external inputs
     module _ (k : i < l .externals .count) where

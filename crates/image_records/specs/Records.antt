@@ -3,11 +3,12 @@ use lib.ListN.{length}
 use Rattle.numbers.specs.Bytes.{signed64, real64}
 use Rattle.oce_model.specs.Format.{quantityBit, unitBit, displayUnitBit, minBit, maxBit, nominalBit}
 use Rattle.oce_model.specs.Attributes.{Attrs, num}
-use Rattle.oce_model.specs.Model.{Block as ModelBlock, Connector as ModelConnector, BoundaryInput, BoundaryOutput as ModelBoundaryOutput}
+use Rattle.oce_model.specs.Model.{Block as ModelBlock, Connector as ModelConnector, Connection as ModelConnection, BoundaryInput, BoundaryOutput as ModelBoundaryOutput}
 use Rattle.oce_model.specs.declared.BlockId.{BlockId}
 use Rattle.oce_model.specs.declared.ConnectorId.{ConnectorId}
 use Rattle.oce_model.specs.declared.Block.{Block}
 use Rattle.oce_model.specs.declared.Connector.{Connector}
+use Rattle.oce_model.specs.declared.Connection.{Connection}
 use Rattle.oce_model.specs.declared.BoundaryOutput.{BoundaryOutput}
 use Rattle.oce_model.specs.declared.RealAttrs.{RealAttrs}
 use Rattle.oce_model.specs.declared.IntAttrs.{IntAttrs}
@@ -19,6 +20,10 @@ blockRead b = record { id = record { 0 = b .id }; instance = b .instanceIri; inp
 -- a connector without its attributes
 unfoldable pub connectorRead : ModelConnector → Connector
 connectorRead c = record { id = record { 0 = c .id }; block = record { 0 = c .block }; dir = c .dir; kind = c .valueType; class = c .enumClass; iri = c .iri }
+
+-- a connection
+unfoldable pub connectionRead : ModelConnection → Connection
+connectionRead c = record { from = record { 0 = c .from }; to = record { 0 = c .to } }
 
 -- a boundary output without its attributes
 unfoldable pub outputRead : ModelBoundaryOutput → BoundaryOutput

@@ -44,7 +44,7 @@ ghost use Rattle.oce_model.specs.Format.{longestImage, blockPorts, portLength, 
 ghost use Rattle.oce_model.specs.Attributes.{attrsAt};
 ghost use Rattle.oce_model.specs.Model.{modelOf, inputCountAt, outputCountAt, blockAt, connectorAt, block, connector, connection, boundaryInput, boundaryOutput};
 ghost use Rattle.image_accept.specs.Layout.{Laid, Tabled};
-ghost use Rattle.image_records.specs.Records.{blockRead, connectorRead, outputRead, realAttrs, intAttrs};
+ghost use Rattle.image_records.specs.Records.{blockRead, connectorRead, connectionRead, outputRead, realAttrs, intAttrs};
 
 // Where record i of a section stands, by the size of its records.
 fn record_at(section: Section, size: usize, i: usize) -> usize
@@ -93,13 +93,13 @@ pub fn connector_attrs(image: &[u8], layout: Layout, i: ConnectorId) -> usize
 // Connection k.
 pub fn connection(image: &[u8], layout: Layout, k: usize) -> Connection
     requires { ⌜ Laid (now image) layout × (k < layout .connections .count) ⌝ }
-    ensures { λ r. ⌜ r ≡ connection (modelOf (now (image .entry))) k ⌝ }
+    ensures { λ r. ⌜ r ≡ connectionRead (connection (modelOf (now (image .entry))) k) ⌝ }
 {
     let c = layout.connections;
     let at = record_at(c, CONNECTION_SIZE, k);
     Connection {
-        from: read32(image, at + CONNECTION_FROM_AT) as u32,
-        to: read32(image, at + CONNECTION_TO_AT) as u32,
+        from: ConnectorId(read32(image, at + CONNECTION_FROM_AT) as u32),
+        to: ConnectorId(read32(image, at + CONNECTION_TO_AT) as u32),
     }
 }
 

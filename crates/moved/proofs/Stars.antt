@@ -7,8 +7,7 @@ use mathlib.Core.List.{[], _∷_, _++_}
 use lib.Dec.{eqb, ltb}
 use borrow.Author.Tests.{eqb-true, ltb-false, not-false}
 use Rattle.base.specs.Lists.{each, only}
-use Rattle.oce_model.specs.Model.{BoundaryOutput, Model, block, blockCount, boundaryOutput, boundaryOutputCount, connection, connectionCount, connector, connectorCount, isConnector, isIn}
-use Rattle.oce_model.specs.declared.Connection.{Connection}
+use Rattle.oce_model.specs.Model.{Connection, BoundaryOutput, Model, block, blockCount, boundaryOutput, boundaryOutputCount, connection, connectionCount, connector, connectorCount, isConnector, isIn}
 use Rattle.oce_diag.specs.Diagnostics.{error, hasError, subjectOf}
 use Rattle.oce_diag.specs.declared.DiagCode.the-variants.{CrossedBounds, DirectionMismatch, MalformedDocument, SingleAssignment, TypeMismatch}
 use Rattle.oce_diag.specs.declared.Subject.the-variants.{Nothing, Text}

@@ -5,13 +5,21 @@ ghost use Prim.Native.Nat.{_+_, _≤_, _<_};
 ghost use lib.ListN.{length};
 ghost use lib.Ieee.Scale.{finite};
 ghost use Rattle.base.specs.Buffers.{patch};
-ghost use Rattle.numbers.specs.Bytes.{byteRange, shortRange, wordRange, byte, le16, le32, le64, leBytes, signed64, real64};
+ghost use Rattle.numbers.specs.Bytes.{byteRange, shortRange, wordRange, byte, le16, le32, le64, leBytes, bit, signed64, real64};
 
 // A byte as a number.
 pub fn wide(x: u8) -> usize
     ensures { λ r. ⌜ (r ≡ x) × (r < byteRange) ⌝ }
 {
     x as usize
+}
+
+// Bit p of a number is set.
+pub fn is_set(number: usize, p: usize) -> bool
+    requires { ⌜ p < 64 ⌝ }
+    ensures { λ r. ⌜ r ≡ bit number p ⌝ }
+{
+    (number >> p) % 2 == 1
 }
 
 // ---- the number that stands in a slice from index at on

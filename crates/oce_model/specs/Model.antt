@@ -11,7 +11,6 @@ use Rattle.oce_model.specs.Format.{textTag, blockTag, connectorTag, conn
 use Rattle.oce_model.specs.Attributes.{Attrs, noAttrs, attrsAt}
 use Rattle.oce_model.specs.Image.{Field, fields, ofTag}
 use Rattle.oce_model.specs.Texts.{textOf}
-pub use Rattle.oce_model.specs.declared.Connection.{Connection}
 
 -- `BlockInstance`; instanceIri is a text number, or noText
 pub record Block : Type 0 where
@@ -29,6 +28,11 @@ pub record Connector : Type 0 where
   pub enumClass : ℕ
   pub iri : ℕ
   pub attrs : Attrs
+
+-- `Connection`: from one connector to another
+pub record Connection : Type 0 where
+  pub from : ℕ
+  pub to : ℕ
 
 -- `BoundaryInput`
 pub record BoundaryInput : Type 0 where

@@ -65,10 +65,10 @@ pub struct IntAttrs {
     pub max: i64,
 }
 
-// The Rust's `Connection`: the numbers of two connectors.
+// The Rust's `Connection`.
 pub struct Connection {
-    pub from: u32,
-    pub to: u32,
+    pub from: ConnectorId,
+    pub to: ConnectorId,
 }
 
 // ---- the numbers of the format that code cites, by the names of specs/Format.antt

@@ -28,7 +28,7 @@ use Rattle.image_accept.specs.declared.Layout.{Layout}
 use Rattle.image_accept.specs.declared.Acceptance.{Acceptance}
 use Rattle.image_accept.specs.declared.Acceptance.the-variants as accepting
 use Rattle.image_records.proofs.Laws.{connectors-counted, connectors-few, outputs-counted, boundary-outputs-few}
-use Rattle.unify_slots.specs.Columns.{width, slotCount, view, Room}
+use Rattle.unify_slots.specs.Table.{width, slotCount, view, Room}
 use Rattle.outcome.specs.Filled.{withSlots, filledOf}
 use Rattle.outcome.specs.Report.{finalSlots}
 use Rattle.outcome.specs.Answer.{reportOf, reportSize, answerFor, answer, filledAfter, reportAfter}
@@ -40,13 +40,13 @@ use Rattle.oce_validate.specs.Answered.{fewSlots, Answered, Tallied, Ear
 
 -- ---- a run of all rules
 
-module _ {s ks ms ns b b′ : List ℕ} {c : Counted} (q : Ran (modelOf s) ks ms ns b b′ c) where
-  pub tallied : Tallied s ks ms ns c
+module _ {s table b b′ : List ℕ} {c : Counted} (q : Ran (modelOf s) table b b′ c) where
+  pub tallied : Tallied s table c
   unfolding reportOf
   tallied = record { errors = put-errors (q .put) refl; warnings = put-warnings (q .put) refl; few = q .few; slots = q .slots; room = q .room }
 
   -- over a report with room for what was counted before
-  pub report-written : {xs ys zs : List ℕ} {n : Counted} → Tallied s xs ys zs n → diagnosticSize * total n ≤ length b → b′ ≡ startsWith (reportBytes (reportOf s)) b
+  pub report-written : {before : List ℕ} {n : Counted} → Tallied s before n → diagnosticSize * total n ≤ length b → b′ ≡ startsWith (reportBytes (reportOf s)) b
   unfolding reportOf
   report-written {n = n} t l =
       let k : total n ≡ length (reportOf s) = omega (arith, t .errors, t .warnings, errors-warnings (reportOf s)) in
@@ -66,7 +66,7 @@ module _ {s ks ms ns b b′ : List ℕ} {c : Counted} (q : Ran (modelOf s) ks ms
 
 -- ---- what is left in the buffers
 
-module _ {s ks ms ns : List ℕ} {c : Counted} (t : Tallied s ks ms ns c) where
+module _ {s table : List ℕ} {c : Counted} (t : Tallied s table c) where
   -- the report is copied
   pub early-copied : {e : List ℕ} (r : List ℕ) {r′ : List ℕ} (k : ℕ) → Early s e → k ≡ diagnosticSize * total c → k ≤ length e → r′ ≡ patch r 0 (take (k - 0) e) → r′ ≡ startsWith (reportBytes (reportOf s)) r
   early-copied {e} r k h p l q =
@@ -79,7 +79,7 @@ module _ {s ks ms ns : List ℕ} {c : Counted} (t : Tallied s ks ms ns c) where
   pub filled-kept : (f : List ℕ) {f′ : List ℕ} {l : Layout} → Laid s l → Bytes s → f′ ≡ startsWith s f → 0 < c .errors → f′ ≡ startsWith (filledOf s) f
   filled-kept f h bytes e n = e ∙ ap (λ x. startsWith x f) (sym (filled-undone s bytes (h .accepted) (some-error (reportOf s) (omega (arith, t .errors)))))
 
-  final : c .errors ≡ 0 → withSlots s (view (slotCount (modelOf s)) ks ms ns) ≡ filledOf s
+  final : c .errors ≡ 0 → withSlots s (view (slotCount (modelOf s)) table) ≡ filledOf s
   unfolding filledOf finalSlots reportOf
   final z = rw (no-errors (reportOf s) (sym (t .errors) ∙ z)) (ap (withSlots s) (t .slots))
 
@@ -92,37 +92,36 @@ module _ {s : List ℕ} {l : Layout} (h : Laid s l) where
   pub slots-counted : {n : ℕ} → n ≡ l .connectors .count + l .outputs .count → n ≡ slotCount (modelOf s)
   slots-counted e = omega (arith, e, connectors-counted h, outputs-counted h)
 
-  pub slots-room : {ks ms ns : List ℕ} {c : Counted} {n : ℕ} → Tallied s ks ms ns c → n ≡ l .connectors .count + l .outputs .count → Room n ks ms ns
+  pub slots-room : {table : List ℕ} {c : Counted} {n : ℕ} → Tallied s table c → n ≡ l .connectors .count + l .outputs .count → Room n table
   slots-room t e = rw (slots-counted e) (t .room)
 
   pub slots-few : Fits w64 (l .connectors .count + l .outputs .count)
   slots-few = record { fits = omega (arith, connectors-few h, boundary-outputs-few h) }
 
 -- with no error the slots' attributes stand in it
-pub filled-written : (f : List ℕ) {s ks ms ns f′ : List ℕ} {c : Counted} {l : Layout} (n : ℕ) → Tallied s ks ms ns c → Laid s l → f′ ≡ startsWith (withSlots s (view n ks ms ns)) f
+pub filled-written : (f : List ℕ) {s table f′ : List ℕ} {c : Counted} {l : Layout} (n : ℕ) → Tallied s table c → Laid s l → f′ ≡ startsWith (withSlots s (view n table)) f
     → n ≡ l .connectors .count + l .outputs .count → c .errors ≤ 0 → f′ ≡ startsWith (filledOf s) f
-filled-written f {s} {ks} {ms} {ns} {c = c} n t h e k z =
+filled-written f {s} {table} {c = c} n t h e k z =
     let none : c .errors ≡ 0 = omega arith in
-    e ∙ ap (λ x. startsWith x f) (ap (λ n. withSlots s (view n ks ms ns)) (slots-counted h k) ∙ final t none)
+    e ∙ ap (λ x. startsWith x f) (ap (λ n. withSlots s (view n table)) (slots-counted h k) ∙ final t none)
 
--- ---- columns
+-- ---- the table
 
-module _ {s texts blocks ks ms ns : List ℕ} {l : Layout} (h : Laid s l) (t : Tabled textTag s texts) (b : Tabled blockTag s blocks) where
-  -- columns for n slots
-  ready-for : (n : ℕ) → l .connectors .count + l .outputs .count ≤ n → n ≤ length ks → n ≤ length ms → width * n ≤ length ns → Ready s l texts blocks ks ms ns
-  ready-for n few p q r =
+module _ {s texts blocks table : List ℕ} {l : Layout} (h : Laid s l) (t : Tabled textTag s texts) (b : Tabled blockTag s blocks) where
+  -- one for n slots
+  ready-for : (n : ℕ) → l .connectors .count + l .outputs .count ≤ n → width * n ≤ length table → Ready s l texts blocks table
+  ready-for n few p =
       let e : slotCount (modelOf s) ≤ n = omega (arith, slots-counted h refl) in
-      record { laid = h; text-table = t; block-table = b; room = record { kinds = omega arith; marks = omega arith; nums = omega arith } }
+      record { laid = h; text-table = t; block-table = b; room = record { fits = omega arith } }
 
-  pub ready-few : l .connectors .count + l .outputs .count ≤ fewSlots → fewSlots ≤ length ks → fewSlots ≤ length ms → width * fewSlots ≤ length ns → Ready s l texts blocks ks ms ns
+  pub ready-few : l .connectors .count + l .outputs .count ≤ fewSlots → width * fewSlots ≤ length table → Ready s l texts blocks table
   ready-few = ready-for fewSlots
 
-  pub ready-most : mostConnectors + mostBoundaryOutputs ≤ length ks → mostConnectors + mostBoundaryOutputs ≤ length ms → width * (mostConnectors + mostBoundaryOutputs) ≤ length ns
-      → Ready s l texts blocks ks ms ns
+  pub ready-most : width * (mostConnectors + mostBoundaryOutputs) ≤ length table → Ready s l texts blocks table
   ready-most = ready-for (mostConnectors + mostBoundaryOutputs) (omega (arith, connectors-few h, boundary-outputs-few h))
 
--- the columns may be used again
-pub ready-again : {s texts blocks ks ms ns ks′ ms′ ns′ : List ℕ} {l : Layout} {c : Counted} → Ready s l texts blocks ks ms ns → Tallied s ks′ ms′ ns′ c → Ready s l texts blocks ks′ ms′ ns′
+-- the table may be used again
+pub ready-again : {s texts blocks table table′ : List ℕ} {l : Layout} {c : Counted} → Ready s l texts blocks table → Tallied s table′ c → Ready s l texts blocks table′
 ready-again v t = record { laid = v .laid; text-table = v .text-table; block-table = v .block-table; room = t .room }
 
 -- ---- the answer
@@ -154,7 +153,7 @@ module _ {s : List ℕ} (f r : List ℕ) {l : Layout} (h : Laid s l) where
   unfolding answer
   short-filled l = refused-so s f r 9 (length s) (rw (h .accepted, lt-ltb (length f) (length s) l))
 
-  module _ {ks ms ns : List ℕ} {c : Counted} (t : Tallied s ks ms ns c) where
+  module _ {table : List ℕ} {c : Counted} (t : Tallied s table c) where
     size-is : diagnosticSize * total c ≡ reportSize (reportOf s)
     size-is = let e = t .errors in let w = t .warnings in let n = errors-warnings (reportOf s) in ap (λ k. diagnosticSize * k) (omega arith)
 

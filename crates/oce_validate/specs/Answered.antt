@@ -9,12 +9,12 @@ use Rattle.oce_diag.specs.Putting.{total}
 use Rattle.oce_diag.specs.Encoding.{reportBytes}
 use Rattle.oce_diag.specs.declared.Counted.{Counted}
 use Rattle.unify.specs.Unify.{filledSlots}
-use Rattle.unify_slots.specs.Columns.{slotCount, view, Room}
+use Rattle.unify_slots.specs.Table.{slotCount, view, Room}
 use Rattle.outcome.specs.Answer.{reportOf, reportSize, answer, filledAfter, reportAfter}
 use Rattle.outcome.specs.declared.Answer.{Answer}
 use Rattle.rules.specs.Ran.{mostDiagnostics}
 
--- so many slots have shorter columns
+-- so many slots have a shorter table
 abbrev pub fewSlots : ℕ
 fewSlots = 192
 
@@ -24,13 +24,13 @@ pub record Answered (s f r : List ℕ) (a : Answer) (f′ r′ : List ℕ) : Typ
   pub filled : f′ ≡ filledAfter s f r
   pub report : r′ ≡ reportAfter s f r
 
--- the diagnostics of an image, counted, and its slots after all roots, in columns
-pub record Tallied (s ks ms ns : List ℕ) (c : Counted) : Type 0 where
+-- the diagnostics of an image, counted, and a table of its slots after all roots
+pub record Tallied (s table : List ℕ) (c : Counted) : Type 0 where
   pub errors : c .errors ≡ errors (reportOf s)
   pub warnings : c .warnings ≡ warnings (reportOf s)
   pub few : total c ≤ mostDiagnostics
-  pub slots : view (slotCount (modelOf s)) ks ms ns ≡ filledSlots (modelOf s)
-  pub room : Room (slotCount (modelOf s)) ks ms ns
+  pub slots : view (slotCount (modelOf s)) table ≡ filledSlots (modelOf s)
+  pub room : Room (slotCount (modelOf s)) table
 
 -- a buffer that holds an image's report, if that fits
 pub record Early (s b : List ℕ) : Type 0 where

@@ -34,41 +34,37 @@ const MOST_SLOTS: usize = MOST_CONNECTORS + MOST_BOUNDARY_OUTPUTS;
 // Room for diagnostics that are written before it is known whether the report has room for them.
 const EARLY: usize = DIAGNOSTIC_SIZE * 64;
 
-const MOST_NUMBERS: usize = WIDTH * MOST_SLOTS;
+const MOST_PLACES: usize = WIDTH * MOST_SLOTS;
 
-// So many slots have shorter columns, which are sooner cleared.
+// So many slots have a shorter table, which is sooner cleared.
 const FEW_SLOTS: usize = 192;
 
-const FEW_NUMBERS: usize = WIDTH * FEW_SLOTS;
+const FEW_PLACES: usize = WIDTH * FEW_SLOTS;
 
-// Counts the diagnostics of an image; the columns then hold its slots, filled.
+// Counts the diagnostics of an image; the table then holds its slots, filled.
 fn tally<'a>(
     image: &'a [u8],
     layout: Layout,
     texts: &'a [usize],
     blocks: &[usize],
-    ks: &mut [u8],
-    ms: &mut [u8],
-    ns: &mut [u64],
+    table: &mut [u64],
     early: &mut [u8],
 ) -> Counted
-    requires { ⌜ Ready (now image) layout (now texts) (now blocks) (now ks) (now ms) (now ns) ⌝ }
-    ensures { λ c. ⌜ Tallied (now (image .entry)) (now (ks .exit)) (now (ms .exit)) (now (ns .exit)) c × Early (now (image .entry)) (now (early .exit)) ⌝ }
+    requires { ⌜ Ready (now image) layout (now texts) (now blocks) (now table) ⌝ }
+    ensures { λ c. ⌜ Tallied (now (image .entry)) (now (table .exit)) c × Early (now (image .entry)) (now (early .exit)) ⌝ }
 {
-    run(image, layout, texts, blocks, ks, ms, ns, early)
+    run(image, layout, texts, blocks, table, early)
 }
 
-// The filled image: the attributes of the columns where there is no error, otherwise the image's own.
+// The filled image: the attributes of the table where there is no error, otherwise the image's own.
 fn leave_filled(
     image: &[u8],
     layout: Layout,
-    ks: &[u8],
-    ms: &[u8],
-    ns: &[u64],
+    table: &[u64],
     counted: Counted,
     filled: &mut [u8],
 )
-    requires { ⌜ Laid (now image) layout × Tallied (now image) (now ks) (now ms) (now ns) counted × (length (now image) ≤ length (now filled)) ⌝ }
+    requires { ⌜ Laid (now image) layout × Tallied (now image) (now table) counted × (length (now image) ≤ length (now filled)) ⌝ }
     ensures { λ _. ⌜ now (filled .exit) ≡ startsWith (filledOf (now (image .entry))) (now (filled .entry)) ⌝ }
 {
     if 0 < counted.errors {
@@ -76,7 +72,7 @@ fn leave_filled(
         return;
     }
     let slots = layout.connectors.count + layout.outputs.count;
-    fill_image(image, layout, slots, ks, ms, ns, filled);
+    fill_image(image, layout, slots, table, filled);
 }
 
 // The report: all rules once more, where there is something to report.
@@ -85,14 +81,12 @@ fn leave_report<'a>(
     layout: Layout,
     texts: &'a [usize],
     blocks: &[usize],
-    ks: &mut [u8],
-    ms: &mut [u8],
-    ns: &mut [u64],
+    table: &mut [u64],
     counted: Counted,
     early: &[u8],
     report: &mut [u8],
 )
-    requires { ⌜ Ready (now image) layout (now texts) (now blocks) (now ks) (now ms) (now ns) × Tallied (now image) (now ks) (now ms) (now ns) counted × Early (now image) (now early) × (diagnosticSize * total counted ≤ length (now report)) ⌝ }
+    requires { ⌜ Ready (now image) layout (now texts) (now blocks) (now table) × Tallied (now image) (now table) counted × Early (now image) (now early) × (diagnosticSize * total counted ≤ length (now report)) ⌝ }
     ensures { λ _. ⌜ now (report .exit) ≡ startsWith (reportBytes (reportOf (now (image .entry)))) (now (report .entry)) ⌝ }
 {
     let size = DIAGNOSTIC_SIZE * (counted.errors + counted.warnings);
@@ -100,7 +94,7 @@ fn leave_report<'a>(
         copy_at(report, 0, &early[0..size]);
         return;
     }
-    run(image, layout, texts, blocks, ks, ms, ns, report);
+    run(image, layout, texts, blocks, table, report);
 }
 
 // Both buffers, where they have room, and what the answer counts.
@@ -109,26 +103,22 @@ fn leave<'a>(
     layout: Layout,
     texts: &'a [usize],
     blocks: &[usize],
-    ks: &mut [u8],
-    ms: &mut [u8],
-    ns: &mut [u64],
+    table: &mut [u64],
     counted: Counted,
     early: &[u8],
     filled: &mut [u8],
     report: &mut [u8],
 ) -> Answer
-    requires { ⌜ Ready (now image) layout (now texts) (now blocks) (now ks) (now ms) (now ns) × Tallied (now image) (now ks) (now ms) (now ns) counted × Early (now image) (now early) × (length (now image) ≤ length (now filled)) × (diagnosticSize * total counted ≤ length (now report)) ⌝ }
+    requires { ⌜ Ready (now image) layout (now texts) (now blocks) (now table) × Tallied (now image) (now table) counted × Early (now image) (now early) × (length (now image) ≤ length (now filled)) × (diagnosticSize * total counted ≤ length (now report)) ⌝ }
     ensures { λ a. ⌜ Answered (now (image .entry)) (now (filled .entry)) (now (report .entry)) a (now (filled .exit)) (now (report .exit)) ⌝ }
 {
-    leave_filled(image, layout, ks, ms, ns, counted, filled);
+    leave_filled(image, layout, table, counted, filled);
     leave_report(
         image,
         layout,
         texts,
         blocks,
-        ks,
-        ms,
-        ns,
+        table,
         counted,
         early,
         report,
@@ -145,17 +135,15 @@ fn check_over<'a>(
     layout: Layout,
     texts: &'a [usize],
     blocks: &[usize],
-    ks: &mut [u8],
-    ms: &mut [u8],
-    ns: &mut [u64],
+    table: &mut [u64],
     filled: &mut [u8],
     report: &mut [u8],
 ) -> Answer
-    requires { ⌜ Ready (now image) layout (now texts) (now blocks) (now ks) (now ms) (now ns) × (length (now image) ≤ length (now filled)) ⌝ }
+    requires { ⌜ Ready (now image) layout (now texts) (now blocks) (now table) × (length (now image) ≤ length (now filled)) ⌝ }
     ensures { λ a. ⌜ Answered (now (image .entry)) (now (filled .entry)) (now (report .entry)) a (now (filled .exit)) (now (report .exit)) ⌝ }
 {
     let mut early = [0u8; EARLY];
-    let counted = tally(image, layout, texts, blocks, ks, ms, ns, &mut early);
+    let counted = tally(image, layout, texts, blocks, table, &mut early);
     let size = DIAGNOSTIC_SIZE * (counted.errors + counted.warnings);
     if report.len() < size {
         return Answer::Refused {
@@ -168,9 +156,7 @@ fn check_over<'a>(
         layout,
         texts,
         blocks,
-        ks,
-        ms,
-        ns,
+        table,
         counted,
         &early,
         filled,
@@ -190,17 +176,13 @@ fn check_few<'a>(
     requires { ⌜ Laid (now image) layout × Tabled textTag (now image) (now texts) × Tabled blockTag (now image) (now blocks) × (layout .connectors .count + layout .outputs .count ≤ fewSlots) × (length (now image) ≤ length (now filled)) ⌝ }
     ensures { λ a. ⌜ Answered (now (image .entry)) (now (filled .entry)) (now (report .entry)) a (now (filled .exit)) (now (report .exit)) ⌝ }
 {
-    let mut ks = [0u8; FEW_SLOTS];
-    let mut ms = [0u8; FEW_SLOTS];
-    let mut ns = [0u64; FEW_NUMBERS];
+    let mut table = [0u64; FEW_PLACES];
     check_over(
         image,
         layout,
         texts,
         blocks,
-        &mut ks,
-        &mut ms,
-        &mut ns,
+        &mut table,
         filled,
         report,
     )
@@ -218,17 +200,13 @@ fn check_many<'a>(
     requires { ⌜ Laid (now image) layout × Tabled textTag (now image) (now texts) × Tabled blockTag (now image) (now blocks) × (length (now image) ≤ length (now filled)) ⌝ }
     ensures { λ a. ⌜ Answered (now (image .entry)) (now (filled .entry)) (now (report .entry)) a (now (filled .exit)) (now (report .exit)) ⌝ }
 {
-    let mut ks = [0u8; MOST_SLOTS];
-    let mut ms = [0u8; MOST_SLOTS];
-    let mut ns = [0u64; MOST_NUMBERS];
+    let mut table = [0u64; MOST_PLACES];
     check_over(
         image,
         layout,
         texts,
         blocks,
-        &mut ks,
-        &mut ms,
-        &mut ns,
+        &mut table,
         filled,
         report,
     )

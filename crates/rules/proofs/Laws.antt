@@ -21,7 +21,7 @@ use Rattle.image_accept.specs.declared.Layout.{Layout}
 use Rattle.base.specs.Lists.{any, keep}
 use Rattle.structural_externals.specs.Columns.{half, Lists}
 use Rattle.image_records.proofs.Laws.{connectors-few, connectors-counted, externals-few, externals-counted}
-use Rattle.unify_slots.specs.Columns.{slotCount}
+use Rattle.unify_slots.specs.Table.{slotCount}
 use Rattle.structural.specs.Structural.{rule1, rule2, rule3, rule4}
 use Rattle.crossed_bounds.specs.CrossedBounds.{rule5}
 use Rattle.unify.specs.Unify.{rule6, propagated}
@@ -62,8 +62,8 @@ ran-put m {b} {b′} {b″} {c′} {c″} p q =
     rw (← (report-is m)) (put-then p r)
 
 module _ {s : List ℕ} {l : Layout} (h : Laid s l) where
-  pub ran : {ks ms ns b b′ b″ : List ℕ} {c′ c″ : Counted} → Put b none (firstFive (modelOf s)) b′ c′ → Adds mostFirstFive none c′
-      → Unified (modelOf s) (slotCount (modelOf s)) ks ms ns b′ c′ b″ c″ → Ran (modelOf s) ks ms ns b b″ c″
+  pub ran : {table b b′ b″ : List ℕ} {c′ c″ : Counted} → Put b none (firstFive (modelOf s)) b′ c′ → Adds mostFirstFive none c′
+      → Unified (modelOf s) (slotCount (modelOf s)) table b′ c′ b″ c″ → Ran (modelOf s) table b b″ c″
   ran p few u = record {
     slots = u .slots;
     room = u .room;

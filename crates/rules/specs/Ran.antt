@@ -16,15 +16,15 @@ use Rattle.structural_assignment.specs.PerRecord.{mostAssignmentFaults}
 use Rattle.crossed_bounds.specs.CrossedBounds.{rule5}
 use Rattle.crossed_records.specs.Details.{mostCrossed}
 use Rattle.unify.specs.Unify.{filledSlots}
-use Rattle.unify_slots.specs.Columns.{slotCount, view, Room}
+use Rattle.unify_slots.specs.Table.{slotCount, view, Room}
 use Rattle.outcome.specs.Report.{report}
 
--- an accepted image with its layout and tables, and columns with room for its slots
-pub record Ready (image : List ℕ) (layout : Layout) (texts blocks ks ms ns : List ℕ) : Type 0 where
+-- an accepted image with its layout and the offsets of its texts and blocks, and a table with room for its slots
+pub record Ready (image : List ℕ) (layout : Layout) (texts blocks table : List ℕ) : Type 0 where
   pub laid : Laid image layout
   pub text-table : Tabled textTag image texts
   pub block-table : Tabled blockTag image blocks
-  pub room : Room (slotCount (modelOf image)) ks ms ns
+  pub room : Room (slotCount (modelOf image)) table
 
 -- so many connectors, and so many external inputs, have shorter columns
 abbrev pub fewRecords : ℕ
@@ -52,9 +52,9 @@ mostFirstFive = mostFirstTwo + mostSecondTwo + mostCrossed
 abbrev pub mostDiagnostics : ℕ
 mostDiagnostics = 1000000
 
--- the columns hold the slots after all roots, and a report b has become b′ by all diagnostics of a model, c of them
-pub record Ran (m : Model) (ks ms ns b b′ : List ℕ) (c : Counted) : Type 0 where
-  pub slots : view (slotCount m) ks ms ns ≡ filledSlots m
-  pub room : Room (slotCount m) ks ms ns
+-- the table holds the slots after all roots, and a report b has become b′ by all diagnostics of a model, c of them
+pub record Ran (m : Model) (table b b′ : List ℕ) (c : Counted) : Type 0 where
+  pub slots : view (slotCount m) table ≡ filledSlots m
+  pub room : Room (slotCount m) table
   pub put : Put b none (report m) b′ c
   pub few : total c ≤ mostDiagnostics

@@ -20,7 +20,7 @@ ghost use Rattle.image_accept.specs.Layout.{Laid, Tabled};
 ghost use Rattle.structural.specs.Structural.{rule1, rule2, rule3, rule4};
 ghost use Rattle.structural_degrees.specs.Columns.{Degrees};
 ghost use Rattle.structural_externals.specs.Columns.{Listed};
-ghost use Rattle.unify_slots.specs.Columns.{slotCount, Room};
+ghost use Rattle.unify_slots.specs.Table.{slotCount, Room};
 ghost use Rattle.rules.specs.Ran.{fewRecords, firstFive, Ready, Ran, mostFirstTwo, mostSecondTwo, mostFirstFive};
 
 // So many connectors, and so many external inputs, have shorter columns, which are sooner cleared.
@@ -86,13 +86,11 @@ fn run_over<'a>(
     blocks: &[usize],
     degrees: &[u32],
     externals: &'a [u32],
-    ks: &mut [u8],
-    ms: &mut [u8],
-    ns: &mut [u64],
+    table: &mut [u64],
     report: &mut [u8],
 ) -> Counted
-    requires { ⌜ Ready (now image) layout (now texts) (now blocks) (now ks) (now ms) (now ns) × Degrees (modelOf (now image)) (now degrees) × Listed (modelOf (now image)) (now externals) ⌝ }
-    ensures { λ c. ⌜ Ran (modelOf (now (image .entry))) (now (ks .exit)) (now (ms .exit)) (now (ns .exit)) (now (report .entry)) (now (report .exit)) c ⌝ }
+    requires { ⌜ Ready (now image) layout (now texts) (now blocks) (now table) × Degrees (modelOf (now image)) (now degrees) × Listed (modelOf (now image)) (now externals) ⌝ }
+    ensures { λ c. ⌜ Ran (modelOf (now (image .entry))) (now (table .exit)) (now (report .entry)) (now (report .exit)) c ⌝ }
 {
     let none = Counted {
         errors: 0,
@@ -108,7 +106,7 @@ fn run_over<'a>(
         report,
         none,
     );
-    unify_clusters(image, layout, texts, degrees, ks, ms, ns, report, c)
+    unify_clusters(image, layout, texts, degrees, table, report, c)
 }
 
 // All rules, where connectors and external inputs are few.
@@ -117,13 +115,11 @@ fn run_few<'a>(
     layout: Layout,
     texts: &'a [usize],
     blocks: &[usize],
-    ks: &mut [u8],
-    ms: &mut [u8],
-    ns: &mut [u64],
+    table: &mut [u64],
     report: &mut [u8],
 ) -> Counted
-    requires { ⌜ Ready (now image) layout (now texts) (now blocks) (now ks) (now ms) (now ns) × (layout .connectors .count ≤ fewRecords) × (layout .externals .count ≤ fewRecords) ⌝ }
-    ensures { λ c. ⌜ Ran (modelOf (now (image .entry))) (now (ks .exit)) (now (ms .exit)) (now (ns .exit)) (now (report .entry)) (now (report .exit)) c ⌝ }
+    requires { ⌜ Ready (now image) layout (now texts) (now blocks) (now table) × (layout .connectors .count ≤ fewRecords) × (layout .externals .count ≤ fewRecords) ⌝ }
+    ensures { λ c. ⌜ Ran (modelOf (now (image .entry))) (now (table .exit)) (now (report .entry)) (now (report .exit)) c ⌝ }
 {
     let mut degrees = [0u32; FEW_RECORDS];
     let mut externals = [0u32; FEW_EXTERNALS_COLUMN];
@@ -136,9 +132,7 @@ fn run_few<'a>(
         blocks,
         &degrees,
         &externals,
-        ks,
-        ms,
-        ns,
+        table,
         report,
     )
 }
@@ -149,13 +143,11 @@ fn run_many<'a>(
     layout: Layout,
     texts: &'a [usize],
     blocks: &[usize],
-    ks: &mut [u8],
-    ms: &mut [u8],
-    ns: &mut [u64],
+    table: &mut [u64],
     report: &mut [u8],
 ) -> Counted
-    requires { ⌜ Ready (now image) layout (now texts) (now blocks) (now ks) (now ms) (now ns) ⌝ }
-    ensures { λ c. ⌜ Ran (modelOf (now (image .entry))) (now (ks .exit)) (now (ms .exit)) (now (ns .exit)) (now (report .entry)) (now (report .exit)) c ⌝ }
+    requires { ⌜ Ready (now image) layout (now texts) (now blocks) (now table) ⌝ }
+    ensures { λ c. ⌜ Ran (modelOf (now (image .entry))) (now (table .exit)) (now (report .entry)) (now (report .exit)) c ⌝ }
 {
     let mut degrees = [0u32; MOST_CONNECTORS];
     let mut externals = [0u32; EXTERNALS_COLUMN];
@@ -168,32 +160,27 @@ fn run_many<'a>(
         blocks,
         &degrees,
         &externals,
-        ks,
-        ms,
-        ns,
+        table,
         report,
     )
 }
 
-// All rules over one report, which holds nothing yet. The columns then hold the slots as rule 6 fills
-// them.
+// All rules over one report, which holds nothing yet. The table then holds the slots as rule 6 fills them.
 pub fn run<'a>(
     image: &'a [u8],
     layout: Layout,
     texts: &'a [usize],
     blocks: &[usize],
-    ks: &mut [u8],
-    ms: &mut [u8],
-    ns: &mut [u64],
+    table: &mut [u64],
     report: &mut [u8],
 ) -> Counted
-    requires { ⌜ Ready (now image) layout (now texts) (now blocks) (now ks) (now ms) (now ns) ⌝ }
-    ensures { λ c. ⌜ Ran (modelOf (now (image .entry))) (now (ks .exit)) (now (ms .exit)) (now (ns .exit)) (now (report .entry)) (now (report .exit)) c ⌝ }
+    requires { ⌜ Ready (now image) layout (now texts) (now blocks) (now table) ⌝ }
+    ensures { λ c. ⌜ Ran (modelOf (now (image .entry))) (now (table .exit)) (now (report .entry)) (now (report .exit)) c ⌝ }
 {
     if layout.connectors.count <= FEW_RECORDS {
         if layout.externals.count <= FEW_RECORDS {
-            return run_few(image, layout, texts, blocks, ks, ms, ns, report);
+            return run_few(image, layout, texts, blocks, table, report);
         }
     }
-    run_many(image, layout, texts, blocks, ks, ms, ns, report)
+    run_many(image, layout, texts, blocks, table, report)
 }

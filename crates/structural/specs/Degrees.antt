@@ -3,8 +3,7 @@ use Prim.Native.Nat.{ℕ}
 use mathlib.Core.Bool.{Bool, cond}
 use lib.Dec.{eqb}
 use Rattle.base.specs.Lists.{tally, any}
-use Rattle.oce_model.specs.Model.{Model, connection, connectionCount, isConnector}
-use Rattle.oce_model.specs.declared.Connection.{Connection}
+use Rattle.oce_model.specs.Model.{Connection, Model, connection, connectionCount, isConnector}
 
 -- connection k leads to connector i
 abbrev pub leadsTo : Model → ℕ → ℕ → Bool

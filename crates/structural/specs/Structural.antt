@@ -5,8 +5,7 @@ use mathlib.Core.List.{List, [], _∷_, _++_}
 use lib.ListN.{length, getD}
 use lib.Dec.{eqb, ltb}
 use Rattle.base.specs.Lists.{each, only}
-use Rattle.oce_model.specs.Model.{Block, Connector, BoundaryOutput, Model, block, connector, connection, boundaryOutput, blockCount, connectorCount, connectionCount, boundaryOutputCount, isBlock, isConnector, isIn}
-use Rattle.oce_model.specs.declared.Connection.{Connection}
+use Rattle.oce_model.specs.Model.{Block, Connector, Connection, BoundaryOutput, Model, block, connector, connection, boundaryOutput, blockCount, connectorCount, connectionCount, boundaryOutputCount, isBlock, isConnector, isIn}
 use Rattle.oce_diag.specs.Diagnostics.{subjectOf, blockSubjectOf, error}
 use Rattle.oce_diag.specs.declared.Diagnostic.{Diagnostic}
 use Rattle.oce_diag.specs.declared.Subject.the-variants.{Nothing, Text}

@@ -10,13 +10,12 @@ use lib.Seq.{getD-take}
 use borrow.Author.Tests.{eq-eqb, ne-eqb}
 use Rattle.base.specs.Lists.{tally}
 use Rattle.base.proofs.Lists.{each-same, length-tab, getD-tab, tab-getD, set-tab, tally-yes, tally-no, tally-same, tally-le}
-use Rattle.oce_model.specs.Model.{noConnection}
 use Rattle.oce_model.specs.declared.Connection.{Connection}
-use Rattle.structural_degrees.specs.Counted.{leadTo, counted, Spare}
+use Rattle.structural_degrees.specs.Counted.{absent, leadTo, counted, Spare}
 
 -- where connection i leads
 abbrev pub to : List Connection → ℕ → ℕ
-to cs i = getD cs i noConnection .to
+to cs i = getD cs i absent .to .0
 
 -- one connection more, which leads to j or not
 more : (cs : List Connection) (i j : ℕ) → to cs i ≡ j → leadTo cs (i + 1) j ≡ leadTo cs i j + 1
@@ -65,4 +64,4 @@ room-left ds cs i j spare h l =
 -- the first n of a list, counted, are the list's first n
 pub counted-take : (ds : List ℕ) (cs : List Connection) (n : ℕ) → counted ds (take n cs) n ≡ counted ds cs n
 unfolding counted
-counted-take ds cs n = each-same (length ds) _ _ (λ j h. ap (λ x. (getD ds j 0 + x) ∷ []) (tally-same n _ _ (λ k l. ap (λ (c : Connection). eqb (c .to) j) (getD-take n cs k noConnection l))))
+counted-take ds cs n = each-same (length ds) _ _ (λ j h. ap (λ x. (getD ds j 0 + x) ∷ []) (tally-same n _ _ (λ k l. ap (λ (c : Connection). eqb (c .to .0) j) (getD-take n cs k absent l))))

@@ -12,13 +12,14 @@ use mir.Val.{Fits}
 use borrow.Author.Tests.{lt-ltb}
 use Rattle.base.specs.Lists.{tally}
 use Rattle.base.proofs.Lists.{tally-add, tally-same, tally-le}
-use Rattle.oce_model.specs.Model.{Model, modelOf, noConnection, connection, connectorCount, connectionCount}
+use Rattle.oce_model.specs.Model.{Model, modelOf, connection, connectorCount, connectionCount}
 use Rattle.oce_model.specs.declared.Connection.{Connection}
 use Rattle.structural.specs.Degrees.{degree}
 use Rattle.image_accept.specs.Layout.{Laid}
 use Rattle.image_accept.specs.declared.Layout.{Layout}
+use Rattle.image_records.specs.Records.{connectionRead}
 use Rattle.image_records.proofs.Laws.{connectors-counted, connections-counted, connections-few}
-use Rattle.structural_degrees.specs.Counted.{portion, counted, Spare}
+use Rattle.structural_degrees.specs.Counted.{portion, absent, counted, Spare}
 use Rattle.structural_degrees.proofs.Counting.{counted-length, counted-at}
 use Rattle.structural_degrees.specs.Columns.{Clears, Reads, Counts, Degrees}
 
@@ -30,15 +31,15 @@ reads-start {c = c} = record { long = length-replicate portion c; each = λ j l.
 pub reads-room : {m : Model} {first k : ℕ} {list : List Connection} → Reads m first k list → k < portion → k < length list
 reads-room h l = let s = h .long in omega arith
 
-pub reads-more : {m : Model} {first k : ℕ} {list : List Connection} {c : Connection} → Reads m first k list → c ≡ connection m (first + k) → k < portion → Reads m first (k + 1) (set list k c)
+pub reads-more : {m : Model} {first k : ℕ} {list : List Connection} {c : Connection} → Reads m first k list → c ≡ connectionRead (connection m (first + k)) → k < portion → Reads m first (k + 1) (set list k c)
 reads-more {m} {first} {k} {list} {c} h e l = record { long = length-set list k c ∙ h .long; each = go }
   where
-    go : (j : ℕ) → j < k + 1 → getD (set list k c) j noConnection ≡ connection m (first + j)
+    go : (j : ℕ) → j < k + 1 → getD (set list k c) j absent ≡ connectionRead (connection m (first + j))
     go j q = arm (ℕ-discrete j k)
       where
-        arm : Dec (j ≡ k) → getD (set list k c) j noConnection ≡ connection m (first + j)
-        arm (yes r) = ap (λ x. getD (set list k c) x noConnection) r ∙ getD-set-same list k c noConnection (reads-room h l) ∙ e ∙ ap (λ x. connection m (first + x)) (sym r)
-        arm (no r) = getD-set-other list k j c noConnection r ∙ h .each j (omega arith)
+        arm : Dec (j ≡ k) → getD (set list k c) j absent ≡ connectionRead (connection m (first + j))
+        arm (yes r) = ap (λ x. getD (set list k c) x absent) r ∙ getD-set-same list k c absent (reads-room h l) ∙ e ∙ ap (λ x. connectionRead (connection m (first + x))) (sym r)
+        arm (no r) = getD-set-other list k j c absent r ∙ h .each j (omega arith)
 
 pub reads-end : {m : Model} {first k n : ℕ} {list : List Connection} → Reads m first k list → n ≤ k → Reads m first n list
 reads-end h l = record { long = h .long; each = λ j q. h .each j (omega arith) }
@@ -64,13 +65,14 @@ module _ {m : Model} {k : ℕ} {ds : List ℕ} (h : Counts m k ds) where
 
     -- a portion after the first k
     pub counts-portion : Counts m (k + n) ds′
+    unfolding connectionRead
     counts-portion = record { each = go }
       where
         go : (i : ℕ) → i < length ds′ → getD ds′ i 0 ≡ tally (k + n) (λ j. eqb (connection m j .to) i)
         go i l =
             let inside : i < length ds = (let s = counts-length in omega arith) in
             ap (λ xs. getD xs i 0) e ∙ counted-at ds list n i inside
-            ∙ rw (h .each i inside, tally-same n (λ j. eqb (getD list j noConnection .to) i) (λ j. eqb (connection m (k + j) .to) i) (λ j q. ap (λ (c : Connection). eqb (c .to) i) (r .each j q)))
+            ∙ rw (h .each i inside, tally-same n (λ j. eqb (getD list j absent .to .0) i) (λ j. eqb (connection m (k + j) .to) i) (λ j q. ap (λ (c : Connection). eqb (c .to .0) i) (r .each j q)))
             (sym (tally-add k n (λ j. eqb (connection m j .to) i)))
 
 module _ {s : List ℕ} {l : Layout} (h : Laid s l) where

@@ -5,10 +5,11 @@ use mathlib.Core.List.{List}
 use lib.Dec.{eqb}
 use lib.ListN.{length, getD}
 use Rattle.base.specs.Lists.{tally}
-use Rattle.oce_model.specs.Model.{Model, noConnection, connection, connectorCount}
+use Rattle.oce_model.specs.Model.{Model, connection, connectorCount}
 use Rattle.oce_model.specs.declared.Connection.{Connection}
+use Rattle.image_records.specs.Records.{connectionRead}
 use Rattle.structural.specs.Degrees.{degree}
-use Rattle.structural_degrees.specs.Counted.{portion}
+use Rattle.structural_degrees.specs.Counted.{portion, absent}
 
 -- ---- degrees
 
@@ -20,7 +21,7 @@ pub record Clears (ds₀ : List ℕ) (i : ℕ) (ds : List ℕ) : Type 0 where
 -- a portion that holds the k connections from number first on
 pub record Reads (m : Model) (first k : ℕ) (list : List Connection) : Type 0 where
   pub long : length list ≡ portion
-  pub each : (j : ℕ) → j < k → getD list j noConnection ≡ connection m (first + j)
+  pub each : (j : ℕ) → j < k → getD list j absent ≡ connectionRead (connection m (first + j))
 
 -- at each place, how many of the first k connections lead there
 pub record Counts (m : Model) (k : ℕ) (ds : List ℕ) : Type 0 where

@@ -2,6 +2,7 @@
 use image_accept::Layout;
 use image_records::connection;
 use oce_model::Connection;
+use oce_model::ConnectorId;
 ghost use mathlib.Core.Path.{_≡_};
 ghost use Prim.Native.Nat.{_≤_, _+_, _<_};
 ghost use lib.ListN.{length};
@@ -20,7 +21,7 @@ pub fn add_degrees(connections: &[Connection], degrees: &mut [u32])
 {
     let mut i = 0;
     while i < connections.len() {
-        let to = connections[i].to as usize;
+        let to = connections[i].to.0 as usize;
         if to < degrees.len() {
             degrees[to] += 1;
         }
@@ -44,7 +45,10 @@ fn read_connections(image: &[u8], layout: Layout, first: usize, n: usize) -> [Co
     requires { ⌜ Laid (now image) layout × (n ≤ portion) × (first + n ≤ layout .connections .count) ⌝ }
     ensures { λ r. ⌜ Reads (modelOf (now (image .entry))) first n r ⌝ }
 {
-    let mut list = [Connection { from: 0, to: 0 }; PORTION];
+    let mut list = [Connection {
+        from: ConnectorId(0),
+        to: ConnectorId(0),
+    }; PORTION];
     let mut k = 0;
     while k < n {
         let c = connection(image, layout, first + k);

@@ -28,7 +28,7 @@ use Rattle.oce_diag.proofs.Putting.{put-then, emits-put}
 use Rattle.structural.specs.Structural.{outputFaults, rule2, inRange, sameType, connectionFaults, rule4}
 use Rattle.image_accept.specs.Layout.{Laid}
 use Rattle.image_accept.specs.declared.Layout.{Layout}
-use Rattle.image_records.specs.Records.{connectorRead, outputRead}
+use Rattle.image_records.specs.Records.{connectorRead, connectionRead, outputRead}
 use Rattle.image_records.proofs.Laws.{connectors-counted, connections-counted, outputs-counted, connections-few, boundary-outputs-few}
 use Rattle.structural_wiring.specs.PerRecord.{sourceFaults, within, endFaults, mostOutputFaults, mostConnectionFaults}
 use Rattle.structural_wiring.proofs.Reading.{dir-is, kind-is, class-is, subject-is}
@@ -114,17 +114,17 @@ ends-read m k i j e f es fs et p =
     let d = connector m j in
     rw (← (es ∙ subject-is a e), ← (fs ∙ subject-is d f), ← (dir-is a e), ← (dir-is d f), ← (kind-is a e), ← (kind-is d f), ← (class-is a e), ← (class-is d f), ← et) p
 
-module _ {s : List ℕ} {l : Layout} (h : Laid s l) (i : ℕ) {k : Connection} {t : Bool} (e : k ≡ connection (modelOf s) i) (et : t ≡ within k (l .connectors .count)) where
+module _ {s : List ℕ} {l : Layout} (h : Laid s l) (i : ℕ) {k : Connection} {t : Bool} (e : k ≡ connectionRead (connection (modelOf s) i)) (et : t ≡ within k (l .connectors .count)) where
   tested : inRange (modelOf s) (connection (modelOf s) i) ≡ t
-  unfolding inRange within
-  tested = rw (← e, ← (connectors-counted h)) (sym et)
+  unfolding inRange within connectionRead
+  tested = let read : t ≡ inRange (modelOf s) (connection (modelOf s) i) = rw (e, connectors-counted h) at et in sym read
 
   -- a connection whose ends are connectors
   pub connection-inside : {b b′ : List ℕ} {c c′ : Counted} → t ≡ true
-      → Put b c (endFaults i (subjectOf (connector (modelOf s) (k .from))) (connector (modelOf s) (k .from) .dir) (subjectOf (connector (modelOf s) (k .to))) (connector (modelOf s) (k .to) .dir) (sameType (connector (modelOf s) (k .from)) (connector (modelOf s) (k .to)))) b′ c′
+      → Put b c (endFaults i (subjectOf (connector (modelOf s) (k .from .0))) (connector (modelOf s) (k .from .0) .dir) (subjectOf (connector (modelOf s) (k .to .0))) (connector (modelOf s) (k .to .0) .dir) (sameType (connector (modelOf s) (k .from .0)) (connector (modelOf s) (k .to .0)))) b′ c′
       → Put b c (connectionFaults (modelOf s) i (connection (modelOf s) i)) b′ c′
-  unfolding connectionFaults endFaults
-  connection-inside q p = rw (tested ∙ q, ← e) p
+  unfolding connectionFaults endFaults connectionRead
+  connection-inside q p = rw (tested ∙ q) (rw e at p)
 
   -- and one with an end that is none
   pub connection-outside : {b b′ : List ℕ} {c c′ : Counted} {x : Diagnostic} → t ≡ false → x ≡ error MalformedDocument 4 1 Nothing i
@@ -134,23 +134,23 @@ module _ {s : List ℕ} {l : Layout} (h : Laid s l) (i : ℕ) {k : Connection} {
 
 module _ (k : Connection) (n : ℕ) where
   -- the test of both ends
-  pub within-from : k .from < n → ltb (k .to) n ≡ within k n
+  pub within-from : k .from .0 < n → ltb (k .to .0) n ≡ within k n
   unfolding within
-  within-from e = rw (lt-ltb (k .from) n e)
+  within-from e = rw (lt-ltb (k .from .0) n e)
 
-  pub within-not : n ≤ k .from → false ≡ within k n
+  pub within-not : n ≤ k .from .0 → false ≡ within k n
   unfolding within
-  within-not e = rw (le-ltb (k .from) n e)
+  within-not e = rw (le-ltb (k .from .0) n e)
 
   -- and what it says of each
   module _ {t : Bool} (e : t ≡ within k n) (q : t ≡ true) where
-    pub from-within : k .from < n
+    pub from-within : k .from .0 < n
     unfolding within
-    from-within = ltb-true (k .from) n (and-parts (ltb (k .from) n) (ltb (k .to) n) (sym e ∙ q) .0)
+    from-within = ltb-true (k .from .0) n (and-parts (ltb (k .from .0) n) (ltb (k .to .0) n) (sym e ∙ q) .0)
 
-    pub to-within : k .to < n
+    pub to-within : k .to .0 < n
     unfolding within
-    to-within = ltb-true (k .to) n (and-parts (ltb (k .from) n) (ltb (k .to) n) (sym e ∙ q) .1)
+    to-within = ltb-true (k .to .0) n (and-parts (ltb (k .from .0) n) (ltb (k .to .0) n) (sym e ∙ q) .1)
 
 -- a test of two types: by kind, then by class
 module _ (a b c d : ℕ) where

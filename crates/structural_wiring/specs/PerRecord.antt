@@ -19,7 +19,7 @@ sourceFaults i subject own dir kind =
 
 -- both ends of a connection are among n connectors
 unfoldable pub within : Connection → ℕ → Bool
-within k n = ltb (k .from) n && ltb (k .to) n
+within k n = ltb (k .from .0) n && ltb (k .to .0) n
 
 -- connection k, by the directions of its ends and by whether their types are the same
 unfoldable pub endFaults : ℕ → Subject → ℕ → Subject → ℕ → Bool → List Diagnostic

@@ -117,8 +117,8 @@ pub fn check_boundary_outputs(
 fn in_range(c: Connection, n: usize) -> bool
     ensures { λ r. ⌜ r ≡ within c n ⌝ }
 {
-    if (c.from as usize) < n {
-        return (c.to as usize) < n;
+    if (c.from.0 as usize) < n {
+        return (c.to.0 as usize) < n;
     }
     false
 }
@@ -202,8 +202,8 @@ pub fn connection_faults(
             image,
             layout,
             k as u32,
-            ConnectorId(c.from),
-            ConnectorId(c.to),
+            c.from,
+            c.to,
             report,
             counted,
         );

@@ -6,8 +6,7 @@ use mathlib.Core.List.{List, _++_}
 use lib.ListN.{length}
 use lib.Dec.{eqb, ltb}
 use Rattle.base.specs.Lists.{each, only}
-use Rattle.oce_model.specs.Model.{BoundaryOutput, Model, connector, connection, boundaryOutput, connectorCount, connectionCount, boundaryOutputCount, isConnector, isIn}
-use Rattle.oce_model.specs.declared.Connection.{Connection}
+use Rattle.oce_model.specs.Model.{Connection, BoundaryOutput, Model, connector, connection, boundaryOutput, connectorCount, connectionCount, boundaryOutputCount, isConnector, isIn}
 use Rattle.structural.specs.Degrees.{degree}
 use Rattle.structural.specs.Structural.{inRange, matches}
 

@@ -14,7 +14,7 @@ use Rattle.image_accept.specs.declared.Layout.{Layout}
 use Rattle.image_records.proofs.Laws.{connectors-counted, connections-counted, outputs-counted, connectors-few, connections-few, boundary-outputs-few}
 use Rattle.oce_diag.specs.declared.Counted.{Counted}
 use Rattle.oce_diag.proofs.Putting.{put-then}
-use Rattle.unify_slots.specs.Columns.{slotCount}
+use Rattle.unify_slots.specs.Table.{slotCount}
 use Rattle.unify_slots.specs.Loading.{Read}
 use Rattle.unify_links.specs.Links.{linkCount, Empty, Linked}
 use Rattle.unify_clusters.specs.Roots.{Stage, AllRooted as Rooted}
@@ -24,13 +24,13 @@ use Rattle.unify_clusters.specs.Unified.{mostLinks, fewConnectors, fewLi
 
 -- ---- roots, and the test of their ranges
 
-module _ {image : List ℕ} {layout : Layout} {texts head next : List ℕ} {s : ℕ} {ks ms ns members : List ℕ} (y : Stage image layout texts head next s ks ms ns members) where
-  pub stage-after : Filled image layout head s ks ms ns
+module _ {image : List ℕ} {layout : Layout} {texts head next : List ℕ} {n : ℕ} {table members : List ℕ} (y : Stage image layout texts head next n table members) where
+  pub stage-after : Filled image layout head n table
   stage-after = record { laid = y .laid; headed = linked-headed (y .linked); count = y .count; room = y .room }
 
-module _ {image : List ℕ} {layout : Layout} {texts head next : List ℕ} {s : ℕ} {ks ms ns members b b′ : List ℕ} {c c′ : Counted}
-    (v : Rooted (modelOf image) s ks ms ns b c b′ c′) (y : Stage image layout texts head next s ks ms ns members) where
-  pub unified-tested : {b″ : List ℕ} {c″ : Counted} → Propagated (modelOf image) b′ c′ b″ c″ → c′ .errors ≡ 0 → Unified (modelOf image) s ks ms ns b c b″ c″
+module _ {image : List ℕ} {layout : Layout} {texts head next : List ℕ} {n : ℕ} {table members b b′ : List ℕ} {c c′ : Counted}
+    (v : Rooted (modelOf image) n table b c b′ c′) (y : Stage image layout texts head next n table members) where
+  pub unified-tested : {b″ : List ℕ} {c″ : Counted} → Propagated (modelOf image) b′ c′ b″ c″ → c′ .errors ≡ 0 → Unified (modelOf image) n table b c b″ c″
   unfolding wholeRule6
   unified-tested p e = record {
     count = y .count;
@@ -40,7 +40,7 @@ module _ {image : List ℕ} {layout : Layout} {texts head next : List ℕ} {s : 
     few = omega (arith, v .few, p .few);
   }
 
-  pub unified-not : (c′ .errors ≡ 0 → ⊥) → Unified (modelOf image) s ks ms ns b c b′ c′
+  pub unified-not : (c′ .errors ≡ 0 → ⊥) → Unified (modelOf image) n table b c b′ c′
   unfolding wholeRule6
   unified-not e = record {
     count = y .count;
@@ -85,9 +85,9 @@ module _ {s : List ℕ} {l : Layout} (h : Laid s l) where
   nexts-room {k} few = rw (length-replicate {A = ℕ} k 0) few
 
   -- and room for w members
-  pub stage-fresh : {texts head next : List ℕ} {n w : ℕ} {ks ms ns : List ℕ} → Tabled textTag s texts → Linked (modelOf s) 0 head next → Read (modelOf s) n ks ms ns
-      → linkCount (modelOf s) < w → Stage s l texts head next n ks ms ns (replicate w 0)
+  pub stage-fresh : {texts head next : List ℕ} {n w : ℕ} {table : List ℕ} → Tabled textTag s texts → Linked (modelOf s) 0 head next → Read (modelOf s) n table
+      → linkCount (modelOf s) < w → Stage s l texts head next n table (replicate w 0)
   stage-fresh {w = w} t v r few = record { laid = h; tabled = t; linked = v; count = r .count; room = r .room; wide = rw (length-replicate {A = ℕ} w 0) few }
 
-pub unified-count : {m : Model} {s : ℕ} {ks ms ns b : List ℕ} {c : Counted} {b′ : List ℕ} {c′ : Counted} → Unified m s ks ms ns b c b′ c′ → Unified m (slotCount m) ks ms ns b c b′ c′
+pub unified-count : {m : Model} {n : ℕ} {table b : List ℕ} {c : Counted} {b′ : List ℕ} {c′ : Counted} → Unified m n table b c b′ c′ → Unified m (slotCount m) table b c b′ c′
 unified-count v = rw (← v .count) v

@@ -9,6 +9,7 @@ use lib.Seq.{length-take-le}
 use borrow.Author.Tests.{lt-ltb, le-ltb}
 use Rattle.base.specs.Lists.{steps}
 use Rattle.base.proofs.Lists.{steps-next}
+use Rattle.numbers.specs.Bytes.{wordRange}
 use Rattle.oce_model.specs.Model.{Model, modelOf, connectorCount}
 use Rattle.image_accept.specs.declared.Layout.{Layout}
 use Rattle.oce_diag.specs.declared.Counted.{Counted}
@@ -16,7 +17,7 @@ use Rattle.oce_diag.specs.Putting.{total, Emits}
 use Rattle.oce_diag.proofs.Putting.{put-none, emits-start, emits-turn, emits-put, emits-length, emits-few}
 use Rattle.unify.specs.Clusters.{driven, isRoot}
 use Rattle.unify.specs.Unify.{fillRoot, rootFaults, filledTo, filledSlots, rule6}
-use Rattle.unify_slots.specs.Columns.{view}
+use Rattle.unify_slots.specs.Table.{view}
 use Rattle.image_records.proofs.Laws.{connectors-counted, connectors-few, connections-few, boundary-outputs-few, connections-counted, outputs-counted}
 use Rattle.unify_slots.specs.Loading.{Read}
 use Rattle.unify_links.specs.Links.{Gathered}
@@ -37,13 +38,13 @@ is-root : {m : Model} {r c : ℕ} {members : List ℕ} → Gathered m r members 
 unfolding isRoot
 is-root {m} {r} g h = lt-ltb 0 (length (driven m r)) (omega (arith, count-members g))
 
-module _ {m : Model} {r s : ℕ} {ks ms ns b : List ℕ} {c : Counted} where
-  pub root-none : {k : ℕ} {members : List ℕ} → Gathered m r members k → k < 2 → Rooted m r s ks ms ns ms ns b c b c
+module _ {m : Model} {r n : ℕ} {table b : List ℕ} {c : Counted} where
+  pub root-none : {k : ℕ} {members : List ℕ} → Gathered m r members k → k < 2 → Rooted m r n table table b c b c
   unfolding fillRoot rootFaults
   root-none g h = record { slots = rw (not-root g h); put = rw (not-root g h) put-none; few = omega arith }
 
-  pub root-cluster : {k : ℕ} {members js ms′ ns′ b′ : List ℕ} {c′ : Counted} → Clustered m r s ks js ms ns ms′ ns′ b c b′ c′ → Gathered m r members k → 2 ≤ k → js ≡ take k members
-      → Rooted m r s ks ms ns ms′ ns′ b c b′ c′
+  pub root-cluster : {k : ℕ} {members js table′ b′ : List ℕ} {c′ : Counted} → Clustered m r n js table table′ b c b′ c′ → Gathered m r members k → 2 ≤ k → js ≡ take k members
+      → Rooted m r n table table′ b c b′ c′
   unfolding fillRoot rootFaults
   root-cluster v g h e = record {
     slots = v .slots ∙ rw (is-root g h, ← g .cluster, ← e);
@@ -55,11 +56,11 @@ module _ {m : Model} {r s : ℕ} {ks ms ns b : List ℕ} {c : Counted} where
 pub from-zero : (c : ℕ) (l : List ℕ) → take (c - 0) l ≡ take c l
 from-zero c l = let e : c - 0 ≡ c = omega arith in rw e
 
-module _ {image : List ℕ} {layout : Layout} {texts head next : List ℕ} {s : ℕ} {ks ms ns members : List ℕ} (y : Stage image layout texts head next s ks ms ns members) where
+module _ {image : List ℕ} {layout : Layout} {texts head next : List ℕ} {n : ℕ} {table members : List ℕ} (y : Stage image layout texts head next n table members) where
   pub stage-root : {r : ℕ} → r < layout .connectors .count → r < connectorCount (modelOf image)
   stage-root h = rw (← connectors-counted (y .laid)) h
 
-  pub stage-ready : {r k : ℕ} {members′ js : List ℕ} → Gathered (modelOf image) r members′ k → js ≡ take k members′ → Ready image layout texts s ks ms ns js
+  pub stage-ready : {r k : ℕ} {members′ js : List ℕ} → Gathered (modelOf image) r members′ k → js ≡ take k members′ → Ready image layout texts n table js
   stage-ready {k = k} {members′ = members′} {js = js} g e = record {
     laid = y .laid;
     tabled = y .tabled;
@@ -68,76 +69,77 @@ module _ {image : List ℕ} {layout : Layout} {texts head next : List ℕ} {s : 
     few = small;
   }
     where
-      small : length js < 4294967296
+      small : length js < wordRange
       small = rw (e, length-take-le k members′ (g .within))
           (omega (arith, g .few, connections-counted (y .laid), outputs-counted (y .laid), connections-few (y .laid), boundary-outputs-few (y .laid)))
 
-  pub stage-moved : {ms′ ns′ members′ : List ℕ} → length ms′ ≡ length ms → length ns′ ≡ length ns → length members′ ≡ length members → Stage image layout texts head next s ks ms′ ns′ members′
-  stage-moved lm ln lc = record {
+  pub stage-moved : {table′ members′ : List ℕ} → length table′ ≡ length table → length members′ ≡ length members → Stage image layout texts head next n table′ members′
+  stage-moved lt lc = record {
     laid = y .laid;
     tabled = y .tabled;
     linked = y .linked;
     count = y .count;
-    room = record { kinds = y .room .kinds; marks = omega (arith, y .room .marks); nums = omega (arith, y .room .nums) };
+    room = record { fits = omega (arith, y .room .fits) };
     wide = rw lc (y .wide);
   }
 
 -- ---- all roots
 
--- the roots before r, of n
-pub record Roots (image : List ℕ) (layout : Layout) (texts head next : List ℕ) (s n : ℕ) (ks ms₀ ns₀ members₀ ms ns members b : List ℕ) (c : Counted) (b′ : List ℕ) (c′ : Counted) (r : ℕ) : Type 0 where
-  pub stage : Stage image layout texts head next s ks ms ns members
-  pub marks : length ms ≡ length ms₀
-  pub nums : length ns ≡ length ns₀
-  pub long : length members ≡ length members₀
-  pub slots : view s ks ms ns ≡ filledTo (modelOf image) r
-  pub emits : Emits (λ r. rootFaults (modelOf image) r (filledTo (modelOf image) r)) 7 n b c b′ c′ r
-  pub same : n ≡ connectorCount (modelOf image)
+-- the roots before r, of `roots`
+pub record Roots (image : List ℕ) (layout : Layout) (texts head next : List ℕ) (n roots : ℕ) (table₀ members₀ table members b : List ℕ) (c : Counted) (b′ : List ℕ) (c′ : Counted) (r : ℕ) : Type 0 where
+  pub stage : Stage image layout texts head next n table members
+  pub same-table : length table ≡ length table₀
+  pub same-members : length members ≡ length members₀
+  pub slots : view n table ≡ filledTo (modelOf image) r
+  pub emits : Emits (λ r. rootFaults (modelOf image) r (filledTo (modelOf image) r)) 7 roots b c b′ c′ r
+  pub same : roots ≡ connectorCount (modelOf image)
   pub before : total c ≤ 1000000
 
-module _ {image : List ℕ} {layout : Layout} {texts head next : List ℕ} {s n : ℕ} {ks ms₀ ns₀ members₀ b : List ℕ} {c : Counted} where
-  pub roots-start : Stage image layout texts head next s ks ms₀ ns₀ members₀ → Read (modelOf image) s ks ms₀ ns₀ → n ≡ layout .connectors .count → total c ≤ 1000000
-      → Roots image layout texts head next s n ks ms₀ ns₀ members₀ ms₀ ns₀ members₀ b c b c 0
+module _ {image : List ℕ} {layout : Layout} {texts head next : List ℕ} {n roots : ℕ} {table₀ members₀ b : List ℕ} {c : Counted} where
+  pub roots-start : Stage image layout texts head next n table₀ members₀ → Read (modelOf image) n table₀ → roots ≡ layout .connectors .count → total c ≤ 1000000
+      → Roots image layout texts head next n roots table₀ members₀ table₀ members₀ b c b c 0
   unfolding filledTo steps
   roots-start y v e l = record {
     stage = y;
-    marks = refl;
-    nums = refl;
-    long = refl;
+    same-table = refl;
+    same-members = refl;
     slots = v .slots;
     emits = emits-start;
     same = e ∙ connectors-counted (y .laid);
     before = l;
   }
 
-  module _ {ms ns members b′ : List ℕ} {c′ : Counted} {r : ℕ} (v : Roots image layout texts head next s n ks ms₀ ns₀ members₀ ms ns members b c b′ c′ r) where
-    pub roots-stage : Stage image layout texts head next s ks ms ns members
+  module _ {table members b′ : List ℕ} {c′ : Counted} {r : ℕ} (v : Roots image layout texts head next n roots table₀ members₀ table members b c b′ c′ r) where
+    pub roots-stage : Stage image layout texts head next n table members
     roots-stage = v .stage
 
-    pub roots-inside : r < n → r < layout .connectors .count
+    pub roots-inside : r < roots → r < layout .connectors .count
     roots-inside h = omega (arith, v .same, connectors-counted (v .stage .laid))
 
     pub roots-total : total c′ ≤ 2000000
     roots-total = omega (arith, v .emits .few, v .emits .within, v .before, v .same, connectors-counted (v .stage .laid), connectors-few (v .stage .laid))
 
-    pub roots-fit : r < n → r + 1 < 18446744073709551616
-    roots-fit h = omega (arith, v .same, connectors-counted (v .stage .laid), connectors-few (v .stage .laid))
+    -- a root's number is a u32
+    pub roots-id : r < roots → r < wordRange
+    roots-id h = omega (arith, v .same, connectors-counted (v .stage .laid), connectors-few (v .stage .laid))
 
-    pub roots-turn : {ms′ ns′ members′ b″ : List ℕ} {c″ : Counted} → Rooted (modelOf image) r s ks ms ns ms′ ns′ b′ c′ b″ c″ → r < n
-        → length ms′ ≡ length ms → length ns′ ≡ length ns → length members′ ≡ length members → Roots image layout texts head next s n ks ms₀ ns₀ members₀ ms′ ns′ members′ b c b″ c″ (r + 1)
+    pub roots-fit : r < roots → r + 1 < 18446744073709551616
+    roots-fit h = omega (arith, roots-id h)
+
+    pub roots-turn : {table′ members′ b″ : List ℕ} {c″ : Counted} → Rooted (modelOf image) r n table table′ b′ c′ b″ c″ → r < roots
+        → length table′ ≡ length table → length members′ ≡ length members → Roots image layout texts head next n roots table₀ members₀ table′ members′ b c b″ c″ (r + 1)
     unfolding filledTo
-    roots-turn d h lm ln lc = record {
-      stage = stage-moved (v .stage) lm ln lc;
-      marks = lm ∙ v .marks;
-      nums = ln ∙ v .nums;
-      long = lc ∙ v .long;
+    roots-turn d h lt lc = record {
+      stage = stage-moved (v .stage) lt lc;
+      same-table = lt ∙ v .same-table;
+      same-members = lc ∙ v .same-members;
       slots = d .slots ∙ rw (v .slots, steps-next r);
       emits = emits-turn (v .emits) (rw (v .slots) at (d .put)) (d .few) h;
       same = v .same;
       before = v .before;
     }
 
-    pub roots-done : n ≤ r → AllRooted (modelOf image) s ks ms ns b c b′ c′
+    pub roots-done : roots ≤ r → AllRooted (modelOf image) n table b c b′ c′
     unfolding rule6 filledSlots
     roots-done h =
         let e : r ≡ connectorCount (modelOf image) = omega (arith, v .emits .within, v .same) in
@@ -151,11 +153,8 @@ module _ {image : List ℕ} {layout : Layout} {texts head next : List ℕ} {s n 
     pub roots-report : length b′ ≡ length b
     roots-report = emits-length (v .emits)
 
-    pub roots-marks : length ms ≡ length ms₀
-    roots-marks = v .marks
+    pub roots-table : length table ≡ length table₀
+    roots-table = v .same-table
 
-    pub roots-nums : length ns ≡ length ns₀
-    roots-nums = v .nums
-
-    pub roots-long : length members ≡ length members₀
-    roots-long = v .long
+    pub roots-members : length members ≡ length members₀
+    roots-members = v .same-members

@@ -10,29 +10,29 @@ use Rattle.image_accept.specs.declared.Layout.{Layout}
 use Rattle.oce_diag.specs.declared.Counted.{Counted}
 use Rattle.oce_diag.specs.Putting.{total, Put}
 use Rattle.unify.specs.Unify.{fillRoot, rootFaults, filledSlots, rule6}
-use Rattle.unify_slots.specs.Columns.{slotCount, view, Room}
+use Rattle.unify_slots.specs.Table.{slotCount, view, Room}
 use Rattle.unify_links.specs.Links.{linkCount, Linked}
 
--- texts, links and slots of an accepted image, and an array that has room for the members of any cluster
-pub record Stage (image : List ℕ) (layout : Layout) (texts head next : List ℕ) (s : ℕ) (ks ms ns members : List ℕ) : Type 0 where
+-- texts and links of an accepted image, a table that has its n slots, and an array that has room for the members of any cluster
+pub record Stage (image : List ℕ) (layout : Layout) (texts head next : List ℕ) (n : ℕ) (table members : List ℕ) : Type 0 where
   pub laid : Laid image layout
   pub tabled : Tabled textTag image texts
   pub linked : Linked (modelOf image) 0 head next
-  pub count : s ≡ slotCount (modelOf image)
-  pub room : Room s ks ms ns
+  pub count : n ≡ slotCount (modelOf image)
+  pub room : Room n table
   pub wide : linkCount (modelOf image) < length members
 
--- ---- the columns, and a report b in which c were counted that has become b′ with c′
+-- ---- the table, and a report b in which c were counted that has become b′ with c′
 
 -- by root r
-pub record Rooted (m : Model) (r s : ℕ) (ks ms ns ms′ ns′ b : List ℕ) (c : Counted) (b′ : List ℕ) (c′ : Counted) : Type 0 where
-  pub slots : view s ks ms′ ns′ ≡ fillRoot m r (view s ks ms ns)
-  pub put : Put b c (rootFaults m r (view s ks ms ns)) b′ c′
+pub record Rooted (m : Model) (r n : ℕ) (table table′ b : List ℕ) (c : Counted) (b′ : List ℕ) (c′ : Counted) : Type 0 where
+  pub slots : view n table′ ≡ fillRoot m r (view n table)
+  pub put : Put b c (rootFaults m r (view n table)) b′ c′
   pub few : total c′ ≤ total c + 7
 
 -- by all roots
-pub record AllRooted (m : Model) (s : ℕ) (ks ms ns b : List ℕ) (c : Counted) (b′ : List ℕ) (c′ : Counted) : Type 0 where
-  pub slots : view s ks ms ns ≡ filledSlots m
-  pub room : Room s ks ms ns
+pub record AllRooted (m : Model) (n : ℕ) (table b : List ℕ) (c : Counted) (b′ : List ℕ) (c′ : Counted) : Type 0 where
+  pub slots : view n table ≡ filledSlots m
+  pub room : Room n table
   pub put : Put b c (rule6 m) b′ c′
   pub few : total c′ ≤ total c + 7 * connectorCount m

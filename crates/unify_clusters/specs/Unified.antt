@@ -11,7 +11,7 @@ use Rattle.oce_diag.specs.declared.Diagnostic.{Diagnostic}
 use Rattle.oce_diag.specs.declared.Counted.{Counted}
 use Rattle.oce_diag.specs.Putting.{total, Put}
 use Rattle.unify.specs.Unify.{filledSlots, rule6, propagated}
-use Rattle.unify_slots.specs.Columns.{slotCount, view, Room}
+use Rattle.unify_slots.specs.Table.{slotCount, view, Room}
 
 -- the most links that an accepted image has
 abbrev pub mostLinks : ℕ
@@ -28,10 +28,10 @@ fewLinks = 256
 unfoldable pub wholeRule6 : Model → ℕ → List Diagnostic
 wholeRule6 m e = cond (eqb (e + errors (rule6 m)) 0) (rule6 m ++ propagated m) (rule6 m)
 
--- the columns hold the slots after all roots, and a report b in which c were counted has become b′ with c′ by rule 6
-pub record Unified (m : Model) (s : ℕ) (ks ms ns b : List ℕ) (c : Counted) (b′ : List ℕ) (c′ : Counted) : Type 0 where
-  pub count : s ≡ slotCount m
-  pub slots : view s ks ms ns ≡ filledSlots m
-  pub room : Room s ks ms ns
+-- the table holds the slots after all roots, and a report b in which c were counted has become b′ with c′ by rule 6
+pub record Unified (m : Model) (n : ℕ) (table b : List ℕ) (c : Counted) (b′ : List ℕ) (c′ : Counted) : Type 0 where
+  pub count : n ≡ slotCount m
+  pub slots : view n table ≡ filledSlots m
+  pub room : Room n table
   pub put : Put b c (wholeRule6 m (c .errors)) b′ c′
   pub few : total c′ ≤ total c + 8 * connectorCount m

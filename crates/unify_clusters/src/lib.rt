@@ -1,13 +1,14 @@
 // Rule 6 over all roots, details 1 to 7.
 use image_accept::Layout;
 use oce_diag::Counted;
+use oce_model::ConnectorId;
 use oce_model::MOST_BOUNDARY_OUTPUTS;
 use oce_model::MOST_CONNECTIONS;
 use oce_model::MOST_CONNECTORS;
 use unify_cluster::cluster;
 use unify_links::gather;
 use unify_links::link_all;
-use unify_propagated::propagated;
+use unify_propagated::check_propagated_clusters;
 use unify_slots::load_slots;
 ghost use Prim.Native.Nat.{_+_, _≤_, _<_};
 ghost use Rattle.oce_model.specs.Model.{modelOf};
@@ -17,29 +18,27 @@ ghost use Rattle.unify_clusters.specs.Roots.{Stage, Rooted, AllRooted};
 ghost use Rattle.oce_model.specs.Format.{textTag};
 ghost use Rattle.image_accept.specs.Layout.{Laid, Tabled};
 ghost use Rattle.structural_degrees.specs.Columns.{Degrees};
-ghost use Rattle.unify_slots.specs.Columns.{slotCount, Room};
+ghost use Rattle.unify_slots.specs.Table.{slotCount, Room};
 ghost use Rattle.unify_clusters.specs.Unified.{fewConnectors, fewLinks, Unified};
 
-// Root r: its members gathered, its details settled. A connector that drives nothing is no root.
-fn root<'a>(
+// One root: its members gathered, its details settled. A connector that drives nothing is none.
+fn unify_root<'a>(
     image: &'a [u8],
     layout: Layout,
     texts: &'a [usize],
     head: &[usize],
     next: &[usize],
-    s: usize,
-    ks: &[u8],
-    ms: &mut [u8],
-    ns: &mut [u64],
+    slot_count: usize,
+    table: &mut [u64],
     members: &mut [usize],
-    r: usize,
+    root: ConnectorId,
     report: &mut [u8],
     counted: Counted,
 ) -> Counted
-    requires { ⌜ Stage (now image) layout (now texts) (now head) (now next) s (now ks) (now ms) (now ns) (now members) × (r < layout .connectors .count) × (total counted ≤ 2000000) ⌝ }
-    ensures { λ c. ⌜ Rooted (modelOf (now (image .entry))) r s (now (ks .entry)) (now (ms .entry)) (now (ns .entry)) (now (ms .exit)) (now (ns .exit)) (now (report .entry)) counted (now (report .exit)) c ⌝ }
+    requires { ⌜ Stage (now image) layout (now texts) (now head) (now next) «slot_count» (now table) (now members) × (root .0 < layout .connectors .count) × (total counted ≤ 2000000) ⌝ }
+    ensures { λ c. ⌜ Rooted (modelOf (now (image .entry))) (root .0) «slot_count» (now (table .entry)) (now (table .exit)) (now (report .entry)) counted (now (report .exit)) c ⌝ }
 {
-    let c = gather(image, layout, head, next, r, members);
+    let c = gather(image, layout, head, next, root, members);
     if c < 2 {
         return counted;
     }
@@ -47,52 +46,46 @@ fn root<'a>(
         image,
         layout,
         texts,
-        s,
-        ks,
-        ms,
-        ns,
+        slot_count,
+        table,
         &members[0..c],
-        r,
+        root,
         report,
         counted,
     )
 }
 
 // All roots in turn, each seeing what the ones before it filled.
-pub fn roots<'a>(
+fn unify_roots<'a>(
     image: &'a [u8],
     layout: Layout,
     texts: &'a [usize],
     head: &[usize],
     next: &[usize],
-    s: usize,
-    ks: &[u8],
-    ms: &mut [u8],
-    ns: &mut [u64],
+    slot_count: usize,
+    table: &mut [u64],
     members: &mut [usize],
     report: &mut [u8],
     counted: Counted,
 ) -> Counted
-    requires { ⌜ Stage (now image) layout (now texts) (now head) (now next) s (now ks) (now ms) (now ns) (now members) × Read (modelOf (now image)) s (now ks) (now ms) (now ns) × (total counted ≤ 1000000) ⌝ }
-    ensures { λ c. ⌜ AllRooted (modelOf (now (image .entry))) s (now (ks .entry)) (now (ms .exit)) (now (ns .exit)) (now (report .entry)) counted (now (report .exit)) c
-        × Stage (now (image .entry)) layout (now (texts .entry)) (now (head .entry)) (now (next .entry)) s (now (ks .entry)) (now (ms .exit)) (now (ns .exit)) (now (members .exit)) × (total c ≤ 2000000) ⌝ }
+    requires { ⌜ Stage (now image) layout (now texts) (now head) (now next) «slot_count» (now table) (now members) × Read (modelOf (now image)) «slot_count» (now table) × (total counted ≤ 1000000) ⌝ }
+    ensures { λ c. ⌜ AllRooted (modelOf (now (image .entry))) «slot_count» (now (table .exit)) (now (report .entry)) counted (now (report .exit)) c
+        × Stage (now (image .entry)) layout (now (texts .entry)) (now (head .entry)) (now (next .entry)) «slot_count» (now (table .exit)) (now (members .exit)) × (total c ≤ 2000000) ⌝ }
 {
     let n = layout.connectors.count;
     let mut c = counted;
     let mut r = 0;
     while r < n {
-        c = root(
+        c = unify_root(
             image,
             layout,
             texts,
             head,
             next,
-            s,
-            ks,
-            ms,
-            ns,
+            slot_count,
+            table,
             members,
-            r,
+            ConnectorId(r as u32),
             report,
             c,
         );
@@ -127,33 +120,29 @@ fn all_roots<'a>(
     texts: &'a [usize],
     head: &[usize],
     next: &[usize],
-    s: usize,
-    ks: &[u8],
-    ms: &mut [u8],
-    ns: &mut [u64],
+    slot_count: usize,
+    table: &mut [u64],
     members: &mut [usize],
     report: &mut [u8],
     counted: Counted,
 ) -> Counted
-    requires { ⌜ Stage (now image) layout (now texts) (now head) (now next) s (now ks) (now ms) (now ns) (now members) × Read (modelOf (now image)) s (now ks) (now ms) (now ns) × (total counted ≤ 1000000) ⌝ }
-    ensures { λ c. ⌜ Unified (modelOf (now (image .entry))) s (now (ks .entry)) (now (ms .exit)) (now (ns .exit)) (now (report .entry)) counted (now (report .exit)) c ⌝ }
+    requires { ⌜ Stage (now image) layout (now texts) (now head) (now next) «slot_count» (now table) (now members) × Read (modelOf (now image)) «slot_count» (now table) × (total counted ≤ 1000000) ⌝ }
+    ensures { λ c. ⌜ Unified (modelOf (now (image .entry))) «slot_count» (now (table .exit)) (now (report .entry)) counted (now (report .exit)) c ⌝ }
 {
-    let c = roots(
+    let c = unify_roots(
         image,
         layout,
         texts,
         head,
         next,
-        s,
-        ks,
-        ms,
-        ns,
+        slot_count,
+        table,
         members,
         report,
         counted,
     );
     if c.errors == 0 {
-        return propagated(image, layout, head, s, ks, ms, ns, report, c);
+        return check_propagated_clusters(image, layout, head, slot_count, table, report, c);
     }
     c
 }
@@ -164,15 +153,13 @@ fn few_linked_roots<'a>(
     layout: Layout,
     texts: &'a [usize],
     degrees: &[u32],
-    s: usize,
-    ks: &[u8],
-    ms: &mut [u8],
-    ns: &mut [u64],
+    slot_count: usize,
+    table: &mut [u64],
     report: &mut [u8],
     counted: Counted,
 ) -> Counted
-    requires { ⌜ Laid (now image) layout × Tabled textTag (now image) (now texts) × Degrees (modelOf (now image)) (now degrees) × Read (modelOf (now image)) s (now ks) (now ms) (now ns) × (total counted ≤ 1000000) × (layout .connectors .count ≤ fewConnectors) × (layout .connections .count + layout .outputs .count ≤ fewLinks) ⌝ }
-    ensures { λ c. ⌜ Unified (modelOf (now (image .entry))) s (now (ks .entry)) (now (ms .exit)) (now (ns .exit)) (now (report .entry)) counted (now (report .exit)) c ⌝ }
+    requires { ⌜ Laid (now image) layout × Tabled textTag (now image) (now texts) × Degrees (modelOf (now image)) (now degrees) × Read (modelOf (now image)) «slot_count» (now table) × (total counted ≤ 1000000) × (layout .connectors .count ≤ fewConnectors) × (layout .connections .count + layout .outputs .count ≤ fewLinks) ⌝ }
+    ensures { λ c. ⌜ Unified (modelOf (now (image .entry))) «slot_count» (now (table .exit)) (now (report .entry)) counted (now (report .exit)) c ⌝ }
 {
     let mut head = [NO_LINK; FEW_CONNECTORS];
     let mut next = [0usize; FEW_LINKS];
@@ -184,10 +171,8 @@ fn few_linked_roots<'a>(
         texts,
         &head,
         &next,
-        s,
-        ks,
-        ms,
-        ns,
+        slot_count,
+        table,
         &mut members,
         report,
         counted,
@@ -200,15 +185,13 @@ fn many_linked_roots<'a>(
     layout: Layout,
     texts: &'a [usize],
     degrees: &[u32],
-    s: usize,
-    ks: &[u8],
-    ms: &mut [u8],
-    ns: &mut [u64],
+    slot_count: usize,
+    table: &mut [u64],
     report: &mut [u8],
     counted: Counted,
 ) -> Counted
-    requires { ⌜ Laid (now image) layout × Tabled textTag (now image) (now texts) × Degrees (modelOf (now image)) (now degrees) × Read (modelOf (now image)) s (now ks) (now ms) (now ns) × (total counted ≤ 1000000) ⌝ }
-    ensures { λ c. ⌜ Unified (modelOf (now (image .entry))) s (now (ks .entry)) (now (ms .exit)) (now (ns .exit)) (now (report .entry)) counted (now (report .exit)) c ⌝ }
+    requires { ⌜ Laid (now image) layout × Tabled textTag (now image) (now texts) × Degrees (modelOf (now image)) (now degrees) × Read (modelOf (now image)) «slot_count» (now table) × (total counted ≤ 1000000) ⌝ }
+    ensures { λ c. ⌜ Unified (modelOf (now (image .entry))) «slot_count» (now (table .exit)) (now (report .entry)) counted (now (report .exit)) c ⌝ }
 {
     let mut head = [NO_LINK; MOST_CONNECTORS];
     let mut next = [0usize; MOST_LINKS];
@@ -220,10 +203,8 @@ fn many_linked_roots<'a>(
         texts,
         &head,
         &next,
-        s,
-        ks,
-        ms,
-        ns,
+        slot_count,
+        table,
         &mut members,
         report,
         counted,
@@ -236,15 +217,13 @@ fn linked_roots<'a>(
     layout: Layout,
     texts: &'a [usize],
     degrees: &[u32],
-    s: usize,
-    ks: &[u8],
-    ms: &mut [u8],
-    ns: &mut [u64],
+    slot_count: usize,
+    table: &mut [u64],
     report: &mut [u8],
     counted: Counted,
 ) -> Counted
-    requires { ⌜ Laid (now image) layout × Tabled textTag (now image) (now texts) × Degrees (modelOf (now image)) (now degrees) × Read (modelOf (now image)) s (now ks) (now ms) (now ns) × (total counted ≤ 1000000) ⌝ }
-    ensures { λ c. ⌜ Unified (modelOf (now (image .entry))) s (now (ks .entry)) (now (ms .exit)) (now (ns .exit)) (now (report .entry)) counted (now (report .exit)) c ⌝ }
+    requires { ⌜ Laid (now image) layout × Tabled textTag (now image) (now texts) × Degrees (modelOf (now image)) (now degrees) × Read (modelOf (now image)) «slot_count» (now table) × (total counted ≤ 1000000) ⌝ }
+    ensures { λ c. ⌜ Unified (modelOf (now (image .entry))) «slot_count» (now (table .exit)) (now (report .entry)) counted (now (report .exit)) c ⌝ }
 {
     if layout.connectors.count <= FEW_CONNECTORS {
         if layout.connections.count + layout.outputs.count <= FEW_LINKS {
@@ -253,10 +232,8 @@ fn linked_roots<'a>(
                 layout,
                 texts,
                 degrees,
-                s,
-                ks,
-                ms,
-                ns,
+                slot_count,
+                table,
                 report,
                 counted,
             );
@@ -267,10 +244,8 @@ fn linked_roots<'a>(
         layout,
         texts,
         degrees,
-        s,
-        ks,
-        ms,
-        ns,
+        slot_count,
+        table,
         report,
         counted,
     )
@@ -282,25 +257,21 @@ pub fn unify_clusters<'a>(
     layout: Layout,
     texts: &'a [usize],
     degrees: &[u32],
-    ks: &mut [u8],
-    ms: &mut [u8],
-    ns: &mut [u64],
+    table: &mut [u64],
     report: &mut [u8],
     counted: Counted,
 ) -> Counted
-    requires { ⌜ Laid (now image) layout × Tabled textTag (now image) (now texts) × Degrees (modelOf (now image)) (now degrees) × Room (slotCount (modelOf (now image))) (now ks) (now ms) (now ns) × (total counted ≤ 1000000) ⌝ }
-    ensures { λ c. ⌜ Unified (modelOf (now (image .entry))) (slotCount (modelOf (now (image .entry)))) (now (ks .exit)) (now (ms .exit)) (now (ns .exit)) (now (report .entry)) counted (now (report .exit)) c ⌝ }
+    requires { ⌜ Laid (now image) layout × Tabled textTag (now image) (now texts) × Degrees (modelOf (now image)) (now degrees) × Room (slotCount (modelOf (now image))) (now table) × (total counted ≤ 1000000) ⌝ }
+    ensures { λ c. ⌜ Unified (modelOf (now (image .entry))) (slotCount (modelOf (now (image .entry)))) (now (table .exit)) (now (report .entry)) counted (now (report .exit)) c ⌝ }
 {
-    let s = load_slots(image, layout, ks, ms, ns);
+    let slot_count = load_slots(image, layout, table);
     linked_roots(
         image,
         layout,
         texts,
         degrees,
-        s,
-        ks,
-        ms,
-        ns,
+        slot_count,
+        table,
         report,
         counted,
     )

@@ -15,52 +15,56 @@ ghost use Rattle.image_accept.specs.Layout.{Laid};
 ghost use Rattle.structural_degrees.specs.Columns.{Degrees};
 ghost use Rattle.unify_links.specs.Links.{linkCount, connectionRoot, outputRoot, rootOf, targetOf, Empty, Linked, Gathered};
 
+// The root of a link, if it has one.
+pub enum Root {
+    None,
+    Of(ConnectorId),
+}
+
 // ---- roots and targets
 
-// The root of connection k; a number that is no connector's where it has none.
-fn connection_root(image: &[u8], layout: Layout, degrees: &[u32], k: usize) -> usize
+// The root of connection k.
+fn connection_root(image: &[u8], layout: Layout, degrees: &[u32], k: usize) -> Root
     requires { ⌜ Laid (now image) layout × Degrees (modelOf (now image)) (now degrees) × (k < layout .connections .count) ⌝ }
     ensures { λ r. ⌜ r ≡ connectionRoot (modelOf (now (image .entry))) (connection (modelOf (now (image .entry))) k) ⌝ }
 {
     let n = layout.connectors.count;
     let c = connection(image, layout, k);
-    let from = c.from as usize;
-    let to = c.to as usize;
-    if from < n {
+    let from = c.from;
+    let to = c.to.0 as usize;
+    if (from.0 as usize) < n {
         if to < n {
             if degrees[to] == 1 {
-                return from;
+                return Root::Of(from);
             }
         }
     }
-    n
+    Root::None
 }
 
-// The root of boundary output i; a number that is no connector's where it has none.
-fn output_root(image: &[u8], layout: Layout, i: usize) -> usize
+// The root of boundary output i.
+fn output_root(image: &[u8], layout: Layout, i: usize) -> Root
     requires { ⌜ Laid (now image) layout × (i < layout .outputs .count) ⌝ }
     ensures { λ r. ⌜ r ≡ outputRoot (modelOf (now (image .entry))) (boundaryOutput (modelOf (now (image .entry))) i) ⌝ }
 {
-    let n = layout.connectors.count;
     let o = boundary_output(image, layout, i);
     let source = o.source;
-    let r = source.0 as usize;
-    if n <= r {
-        return n;
+    if layout.connectors.count <= source.0 as usize {
+        return Root::None;
     }
     let c = connector(image, layout, source);
     if c.dir == DIR_IN {
-        return n;
+        return Root::None;
     }
     let at = boundary_output_attrs(image, layout, i);
     if attrs_kind(image, at) == c.kind {
-        return r;
+        return Root::Of(source);
     }
-    n
+    Root::None
 }
 
-// The root of link k; a number that is no connector's where it has none.
-fn root_of(image: &[u8], layout: Layout, degrees: &[u32], k: usize) -> usize
+// The root of link k.
+fn root_of(image: &[u8], layout: Layout, degrees: &[u32], k: usize) -> Root
     requires { ⌜ Laid (now image) layout × Degrees (modelOf (now image)) (now degrees) × (k < linkCount (modelOf (now image))) ⌝ }
     ensures { λ r. ⌜ r ≡ rootOf (modelOf (now (image .entry))) k ⌝ }
 {
@@ -79,20 +83,20 @@ fn target_of(image: &[u8], layout: Layout, k: usize) -> usize
     let connections = layout.connections.count;
     if k < connections {
         let c = connection(image, layout, k);
-        return c.to as usize;
+        return c.to.0 as usize;
     }
     layout.connectors.count + (k - connections)
 }
 
 // ---- the lists
 
-// Link k comes to the front of root r's list.
-fn push(head: &mut [usize], next: &mut [usize], r: usize, k: usize)
-    requires { ⌜ (r < length (now head)) × (k < length (now next)) ⌝ }
-    ensures { λ _. ⌜ (now (head .exit) ≡ set (now (head .entry)) r k) × (now (next .exit) ≡ set (now (next .entry)) k (getD (now (head .entry)) r 0)) ⌝ }
+// Link k comes to the front of the root's list.
+fn push(head: &mut [usize], next: &mut [usize], root: ConnectorId, k: usize)
+    requires { ⌜ (root .0 < length (now head)) × (k < length (now next)) ⌝ }
+    ensures { λ _. ⌜ (now (head .exit) ≡ set (now (head .entry)) (root .0) k) × (now (next .exit) ≡ set (now (next .entry)) k (getD (now (head .entry)) (root .0) 0)) ⌝ }
 {
-    next[k] = head[r];
-    head[r] = k;
+    next[k] = head[root.0 as usize];
+    head[root.0 as usize] = k;
 }
 
 // Link k joins the lists, which have all links behind it.
@@ -108,10 +112,9 @@ fn link(
         × Linked (modelOf (now image)) (k + 1) (now head) (now next) ⌝ }
     ensures { λ _. ⌜ Linked (modelOf (now (image .entry))) k (now (head .exit)) (now (next .exit)) ⌝ }
 {
-    let r = root_of(image, layout, degrees, k);
-    if r < layout.connectors.count {
-        push(head, next, r, k);
-        return;
+    match root_of(image, layout, degrees, k) {
+        Root::None => {}
+        Root::Of(root) => push(head, next, root, k),
     }
 }
 
@@ -144,23 +147,23 @@ fn add_member(image: &[u8], layout: Layout, k: usize, members: &mut [usize], c: 
     members[c] = target_of(image, layout, k);
 }
 
-// The cluster of root r: the root, then the slots that its links lead to. How many they are.
+// The cluster of a root: the root, then the slots that its links lead to. How many they are.
 pub fn gather(
     image: &[u8],
     layout: Layout,
     head: &[usize],
     next: &[usize],
-    r: usize,
+    root: ConnectorId,
     members: &mut [usize],
 ) -> usize
     requires { ⌜ Laid (now image) layout × Linked (modelOf (now image)) 0 (now head) (now next)
-        × (r < connectorCount (modelOf (now image))) × (linkCount (modelOf (now image)) < length (now members)) ⌝ }
-    ensures { λ c. ⌜ Gathered (modelOf (now (image .entry))) r (now (members .exit)) c ⌝ }
+        × (root .0 < connectorCount (modelOf (now image))) × (linkCount (modelOf (now image)) < length (now members)) ⌝ }
+    ensures { λ c. ⌜ Gathered (modelOf (now (image .entry))) (root .0) (now (members .exit)) c ⌝ }
 {
     let links = layout.connections.count + layout.outputs.count;
-    members[0] = r;
+    members[0] = root.0 as usize;
     let mut c = 1;
-    let mut k = head[r];
+    let mut k = head[root.0 as usize];
     while k < links {
         add_member(image, layout, k, members, c);
         c += 1;

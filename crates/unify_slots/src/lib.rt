@@ -3,6 +3,7 @@ use image_accept::Layout;
 use image_records::boundary_output_attrs;
 use image_records::connector_attrs;
 use numbers::int_of_bits;
+use numbers::is_set;
 use numbers::read8;
 use numbers::read16;
 use numbers::read64;
@@ -90,7 +91,7 @@ pub fn is_marked(marks: u64, p: usize) -> bool
     requires { ⌜ p < numberCount ⌝ }
     ensures { λ r. ⌜ r ≡ bit marks p ⌝ }
 {
-    (marks >> p) % 2 == 1
+    is_set(marks as usize, p)
 }
 
 // The marks with bit p set, which was not.

@@ -58,9 +58,9 @@ use Rattle.oce_model.proofs.Connection as T
 use Rattle.oce_model.proofs.Connection.Laws as T′
 use Rattle.structural_degrees.proofs.add_degrees as callee
 use Rattle.structural_degrees.proofs.add_degrees.Symbol as callee-def
-use Rattle.structural_degrees.proofs.add_degrees.Symbol.{name as #connections·add-degrees}
+use Rattle.structural_degrees.proofs.add_degrees.Symbol.{name as #structural-degrees·add-degrees}
 use Rattle.structural_degrees.proofs.add_degrees.Met as callee-thm
-use Rattle.structural_degrees.proofs.add_portion.Key.{name as #connections·add-portion}
+use Rattle.structural_degrees.proofs.add_portion.Key.{name as #structural-degrees·add-portion}
 use Rattle.structural_degrees.proofs.add_portion as add-portion
 use Rattle.structural_degrees.proofs.add_portion.Statement as stated
 use Rattle.structural_degrees.proofs.add_portion.Code as code
@@ -146,7 +146,7 @@ module _ {M : Type 1} (𝓤 : URA M) (H : Heap 𝓤) (A : Atoms 𝓤) (W : Given
     asked : ent 𝓤 (onEntry 𝓤 H A callee.signature (α ∷ [], (κ, tt)) (fullShare, (q, tt)) (lent, (held, tt)) passed) (Callee 𝓤 H A mem′ run .pre to)
     asked = qed W ((‵ (flft (α ∷ []) fullShare) ⊛ ‵ (flft κ q) ⊛ ‵ ftrue) ∷ ‵ (owns (ShrSlice (named 0) (α ∷ []) R ∷ MutSlice (named 1) κ u32 ∷ []) (lent, (held, tt)) passed) ∷ []) ∵ says ! spare $ frame ! $ done !
 
-  module _ (C : Calls 𝓤 H) (Λ : Loops 𝓤 H) (fm : FmC 𝓤 H (W .laws) C) (known : Triple 𝓤 (C #connections·add-degrees) (Callee 𝓤 H A mem′ run)) where
+  module _ (C : Calls 𝓤 H) (Λ : Loops 𝓤 H) (fm : FmC 𝓤 H (W .laws) C) (known : Triple 𝓤 (C #structural-degrees·add-degrees) (Callee 𝓤 H A mem′ run)) where
     walk : ent 𝓤 (onEntry 𝓤 H A add-portion.signature (κ, tt) (q, tt) x here) (WpFn 𝓤 H C Λ code.function (mach ∷ vint w64 n ∷ s′ ∷ []) Post)
     unfolding partOf
     walk =
@@ -200,7 +200,7 @@ module _ {M : Type 1} (𝓤 : URA M) (H : Heap 𝓤) (A : Atoms 𝓤) (W : Given
         typed = array-lawful 𝓤 H A W R (LL.lawful T.the-type T′.the-laws 𝓤 H A W) portion .typed cs (mach ∷ []) p .0
 
 module _ {M : Type 1} (𝓤 : URA M) (H : Heap 𝓤) (A : Atoms 𝓤) (W : Given 𝓤 H A) (mem′ : Memory → SProp 𝓤) (run : Routine → Fun 𝓤) where
-  add-portion-walks : (C : Calls 𝓤 H) (Λ : Loops 𝓤 H) → FmC 𝓤 H (W .laws) C → Triple 𝓤 (C #connections·add-degrees) (Callee 𝓤 H A mem′ run)
+  add-portion-walks : (C : Calls 𝓤 H) (Λ : Loops 𝓤 H) → FmC 𝓤 H (W .laws) C → Triple 𝓤 (C #structural-degrees·add-degrees) (Callee 𝓤 H A mem′ run)
       → Walks 𝓤 H A add-portion.ended stayed (WpFn 𝓤 H C Λ code.function) (add-portion.clauses 𝓤 H A mem′ run)
   add-portion-walks C Λ fm known = walked 𝓤 H A add-portion.ended stayed (add-portion.clauses 𝓤 H A mem′ run) (WpFn 𝓤 H C Λ code.function)
       (λ κs. (vals, (uint-vals w64, (slice-vals, tt)))) (λ κs. (array-tells R (LL.vals T.the-type T′.the-laws) (LL.tells T.the-type T′.the-laws) portion, (uint-tells w64, (mut-slice-tells (named 0) (κs .0) u32, tt))))
@@ -208,7 +208,7 @@ module _ {M : Type 1} (𝓤 : URA M) (H : Heap 𝓤) (A : Atoms 𝓤) (W : Given
       walk 𝓤 H A W mem′ run (κs .0) (qs .0) (a .0) (a .1 .0) (a .1 .1 .0 .ptr .0) (a .1 .1 .0 .ptr .1) (a .1 .1 .0 .name) (a .1 .1 .0 .now) (are .0) (are .1 .0 .1) (are .1 .1 .0 .0 .1) ok C Λ fm known))
 
 add-portion-meets : {M : Type 1} (𝓤 : URA M) (H : Heap 𝓤) (A : Atoms 𝓤) (W : Given 𝓤 H A) (mem′ : Memory → SProp 𝓤) (run : Routine → Fun 𝓤) (𝓣 : Tables 𝓤 H)
-    → Triple 𝓤 (𝓣 .C #connections·add-degrees) (Callee 𝓤 H A mem′ run)
+    → Triple 𝓤 (𝓣 .C #structural-degrees·add-degrees) (Callee 𝓤 H A mem′ run)
     → Meets 𝓤 H A add-portion.signature (WpFn 𝓤 H (𝓣 .C) (𝓣 .Λ) code.function) (add-portion.spec 𝓤 H A mem′ run)
 add-portion-meets 𝓤 H A W mem′ run 𝓣 known = walk-meets 𝓤 H A add-portion.ended stayed W (goes-none 𝓤 H A W 1 (λ _. Arr) yes (λ κs x f. refl), (goes-none 𝓤 H A W 1 (λ _. usize) yes (λ κs x f. refl), (goes-gave-slice 𝓤 H A W 1 0 tt (plain (λ _. u32)), tt)))
     (add-portion.clauses 𝓤 H A mem′ run) (WpFn 𝓤 H (𝓣 .C) (𝓣 .Λ) code.function) (WpFn-mono 𝓤 H (W .laws) 𝓣 code.function) (add-portion-walks 𝓤 H A W mem′ run (𝓣 .C) (𝓣 .Λ) (fmOf 𝓤 H (W .laws) 𝓣) known)
@@ -217,6 +217,6 @@ pub add-portion-spec : {M : Type 1} → stated.statement M
 unfolding code.routine tablesOf
 add-portion-spec 𝓤 H 𝓜 𝓖 𝓡 =
     entered 𝓤 H (tripleOf 𝓤 H (𝓖 .A) add-portion.signature (add-portion.spec 𝓤 H (𝓖 .A) (𝓜 .mem) (𝓡 .run)))
-    (tables 𝓤 H 𝓜 𝓡 code.env .C) (tables 𝓤 H 𝓜 𝓡 code.env .Λ) #connections·add-portion code.function (code.unfolded 𝓤 H 𝓜 𝓡)
+    (tables 𝓤 H 𝓜 𝓡 code.env .C) (tables 𝓤 H 𝓜 𝓡 code.env .Λ) #structural-degrees·add-portion code.function (code.unfolded 𝓤 H 𝓜 𝓡)
     (add-portion-meets 𝓤 H (𝓖 .A) (givenOf 𝓤 H 𝓜 𝓖) (𝓜 .mem) (𝓡 .run) (tablesOf 𝓤 H 𝓜 (tables 𝓤 H 𝓜 𝓡 code.env))
-    (cited 𝓤 H (Callee 𝓤 H (𝓖 .A) (𝓜 .mem) (𝓡 .run)) 𝓜 𝓡 code.env #connections·add-degrees callee-def.routine code.calls-structural-degrees·add-degrees (callee-thm.met 𝓤 H 𝓜 𝓖 𝓡)))
+    (cited 𝓤 H (Callee 𝓤 H (𝓖 .A) (𝓜 .mem) (𝓡 .run)) 𝓜 𝓡 code.env #structural-degrees·add-degrees callee-def.routine code.calls-structural-degrees·add-degrees (callee-thm.met 𝓤 H 𝓜 𝓖 𝓡)))

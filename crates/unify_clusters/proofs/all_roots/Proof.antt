@@ -9,14 +9,12 @@ all-roots-spec =
     tie.close
     (tie.spec
     (λ c κs. search needs)
-    (λ c κs. let done = c .before .before .before .before .before .before .before .before .before .before .before .before .before .roots .ensures in (stage-after (done .1), done .0 .slots, done .2))
+    (λ c κs. let done = c .before .before .before .before .before .before .before .before .before .before .unify-roots .ensures in (stage-after (done .1), done .0 .slots, done .2))
     (λ c. search needs)
     (λ c. search needs)
     (λ c. search needs)
-    (λ c. search needs)
-    (λ c. let done = c .before .before .before .before .before .before .before .before .before .before .before .before .before .before .before .before .roots .ensures in unified-tested (done .0) (done .1) (c .before .before .propagated .ensures) (c .before .before .before .before .before .before .if1 .taken))
-    (λ c. search needs)
+    (λ c. let done = c .before .before .before .before .before .before .before .before .before .before .before .before .before .unify-roots .ensures in unified-tested (done .0) (done .1) (c .before .before .check-propagated-clusters .ensures) (c .before .before .before .before .before .if1 .taken))
     (λ c. search needs)
     (λ c. search needs)
     (λ c. search needs)
-    (λ c. let done = c .before .before .before .before .before .before .before .before .before .before .roots .ensures in unified-not (done .0) (done .1) (c .if1 .left)))
+    (λ c. let done = c .before .before .before .before .before .before .before .before .unify-roots .ensures in unified-not (done .0) (done .1) (c .if1 .left)))

@@ -17,5 +17,4 @@ few-linked-roots-spec =
     (λ c κs. (search (stage-fresh, few-members), search needs, search needs))
     (λ c. search needs)
     (λ c. search needs)
-    (λ c. search needs)
     (λ c. search needs))

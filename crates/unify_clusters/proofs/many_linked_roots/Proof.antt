@@ -17,5 +17,4 @@ many-linked-roots-spec =
     (λ c κs. (search (stage-fresh, members-most), search needs, search needs))
     (λ c. search needs)
     (λ c. search needs)
-    (λ c. search needs)
     (λ c. search needs))

@@ -12,6 +12,4 @@ unify-clusters-spec =
     (λ c κs. search needs)
     (λ c. search needs)
     (λ c. search needs)
-    (λ c. search needs)
-    (λ c. search needs)
-    (λ c. unified-count (c .before .before .before .before .before .before .linked-roots .ensures)))
+    (λ c. unified-count (c .before .before .before .before .linked-roots .ensures)))

@@ -11,8 +11,10 @@ link-spec =
     tie.close
     (tie.spec
     (λ c κs. search needs)
+    (λ c. search needs)
+    (λ c. search needs)
     (λ c κs. (search head-there, search next-there))
-    (λ c. search needs)
-    (λ c. search needs)
     (λ c. search mine)
+    (λ c. search needs)
+    (λ c. search needs)
     (λ c. search mine))

@@ -1,18 +1,16 @@
 -- `unify_propagated::tell_crossed` meets its contract.
 use borrow.Author.Needs.{needs}
-use Rattle.unify_cluster.proofs.Laws.{root-fits}
 use Rattle.unify_propagated.proofs.Laws.{told-crossed}
 use Rattle.unify_propagated.proofs.tell_crossed.Statement.{statement}
 use Rattle.unify_propagated.proofs.tell_crossed.Tie as tie
 
-ruleset mine = (root-fits, told-crossed, needs)
+ruleset mine = (told-crossed, needs)
 
 pub tell-crossed-spec : {M : Type 1} → statement M
 tell-crossed-spec =
     tie.close
     (tie.spec
     (λ c κs. search needs)
-    (λ c. search mine)
     (λ c κs. search needs)
     (λ c κs. search needs)
     (λ c. search needs)
