@@ -17,6 +17,7 @@ use Rattle.crossed_bounds.specs.CrossedBounds.{rule5}
 use Rattle.crossed_records.specs.Details.{mostCrossed}
 use Rattle.unify.specs.Unify.{filledSlots}
 use Rattle.unify_slots.specs.Table.{slotCount, view, Room}
+use Rattle.unify_clusters.specs.Unified.{mostUnifiedFaults}
 use Rattle.outcome.specs.Report.{report}
 
 -- an accepted image with its layout and the offsets of its texts and blocks, and a table with room for its slots
@@ -48,9 +49,9 @@ mostSecondTwo = mostAssignmentFaults * mostConnectors + mostConnectionFaults * m
 abbrev pub mostFirstFive : ℕ
 mostFirstFive = mostFirstTwo + mostSecondTwo + mostCrossed
 
--- a bound that keeps sums small: no accepted image gives as many diagnostics
+-- the most that all rules report
 abbrev pub mostDiagnostics : ℕ
-mostDiagnostics = 1000000
+mostDiagnostics = mostFirstFive + mostUnifiedFaults
 
 -- the table holds the slots after all roots, and a report b has become b′ by all diagnostics of a model, c of them
 pub record Ran (m : Model) (table b b′ : List ℕ) (c : Counted) : Type 0 where

@@ -13,7 +13,7 @@ use Rattle.numbers.specs.Bytes.{wordRange}
 use Rattle.oce_model.specs.Model.{Model, modelOf, connectorCount}
 use Rattle.image_accept.specs.declared.Layout.{Layout}
 use Rattle.oce_diag.specs.declared.Counted.{Counted}
-use Rattle.oce_diag.specs.Putting.{total, Emits}
+use Rattle.oce_diag.specs.Putting.{total, Emits, Countable, Adds}
 use Rattle.oce_diag.proofs.Putting.{put-none, emits-start, emits-turn, emits-put, emits-length, emits-few}
 use Rattle.unify.specs.Clusters.{driven, isRoot}
 use Rattle.unify.specs.Unify.{fillRoot, rootFaults, filledTo, filledSlots, rule6}
@@ -22,8 +22,8 @@ use Rattle.image_records.proofs.Laws.{connectors-counted, connectors-few, conne
 use Rattle.unify_slots.specs.Loading.{Read}
 use Rattle.unify_links.specs.Links.{Gathered}
 use Rattle.unify_settle.specs.Settle.{Ready}
-use Rattle.unify_cluster.specs.Clusters.{Clustered}
-use Rattle.unify_clusters.specs.Roots.{Stage, Rooted, AllRooted}
+use Rattle.unify_cluster.specs.Clusters.{Clustered, mostClusterFaults}
+use Rattle.unify_clusters.specs.Roots.{Stage, Rooted, AllRooted, mostRootsFaults}
 
 -- ---- one root
 
@@ -91,12 +91,12 @@ pub record Roots (image : List ℕ) (layout : Layout) (texts head next : List �
   pub same-table : length table ≡ length table₀
   pub same-members : length members ≡ length members₀
   pub slots : view n table ≡ filledTo (modelOf image) r
-  pub emits : Emits (λ r. rootFaults (modelOf image) r (filledTo (modelOf image) r)) 7 roots b c b′ c′ r
+  pub emits : Emits (λ r. rootFaults (modelOf image) r (filledTo (modelOf image) r)) mostClusterFaults roots b c b′ c′ r
   pub same : roots ≡ connectorCount (modelOf image)
-  pub before : total c ≤ 1000000
+  pub before : Countable mostRootsFaults c
 
 module _ {image : List ℕ} {layout : Layout} {texts head next : List ℕ} {n roots : ℕ} {table₀ members₀ b : List ℕ} {c : Counted} where
-  pub roots-start : Stage image layout texts head next n table₀ members₀ → Read (modelOf image) n table₀ → roots ≡ layout .connectors .count → total c ≤ 1000000
+  pub roots-start : Stage image layout texts head next n table₀ members₀ → Read (modelOf image) n table₀ → roots ≡ layout .connectors .count → Countable mostRootsFaults c
       → Roots image layout texts head next n roots table₀ members₀ table₀ members₀ b c b c 0
   unfolding filledTo steps
   roots-start y v e l = record {
@@ -116,8 +116,11 @@ module _ {image : List ℕ} {layout : Layout} {texts head next : List ℕ} {n ro
     pub roots-inside : r < roots → r < layout .connectors .count
     roots-inside h = omega (arith, v .same, connectors-counted (v .stage .laid))
 
-    pub roots-total : total c′ ≤ 2000000
-    roots-total = omega (arith, v .emits .few, v .emits .within, v .before, v .same, connectors-counted (v .stage .laid), connectors-few (v .stage .laid))
+    pub roots-adds : Adds mostRootsFaults c c′
+    roots-adds = omega (arith, v .emits .few, v .emits .within, v .same, connectors-counted (v .stage .laid), connectors-few (v .stage .laid))
+
+    pub roots-countable : r < roots → Countable mostClusterFaults c′
+    roots-countable h = omega (arith, v .emits .few, v .before, v .same, connectors-counted (v .stage .laid), connectors-few (v .stage .laid))
 
     -- a root's number is a u32
     pub roots-id : r < roots → r < wordRange

@@ -12,14 +12,15 @@ use unify_propagated::check_propagated_clusters;
 use unify_slots::load_slots;
 ghost use Prim.Native.Nat.{_+_, _≤_, _<_};
 ghost use Rattle.oce_model.specs.Model.{modelOf};
-ghost use Rattle.oce_diag.specs.Putting.{total};
+ghost use Rattle.oce_diag.specs.Putting.{Countable, Adds};
 ghost use Rattle.unify_slots.specs.Loading.{Read};
-ghost use Rattle.unify_clusters.specs.Roots.{Stage, Rooted, AllRooted};
+ghost use Rattle.unify_clusters.specs.Roots.{Stage, Rooted, AllRooted, mostRootsFaults};
 ghost use Rattle.oce_model.specs.Format.{textTag};
 ghost use Rattle.image_accept.specs.Layout.{Laid, Tabled};
 ghost use Rattle.structural_degrees.specs.Columns.{Degrees};
 ghost use Rattle.unify_slots.specs.Table.{slotCount, Room};
-ghost use Rattle.unify_clusters.specs.Unified.{fewConnectors, fewLinks, Unified};
+ghost use Rattle.unify_cluster.specs.Clusters.{mostClusterFaults};
+ghost use Rattle.unify_clusters.specs.Unified.{fewConnectors, fewLinks, Unified, mostUnifiedFaults};
 
 // One root: its members gathered, its details settled. A connector that drives nothing is none.
 fn unify_root<'a>(
@@ -68,9 +69,9 @@ fn unify_roots<'a>(
     report: &mut [u8],
     counted: Counted,
 ) -> Counted
-    requires { ⌜ Stage (now image) layout (now texts) (now head) (now next) «slot_count» (now table) (now members) × Read (modelOf (now image)) «slot_count» (now table) × (total counted ≤ 1000000) ⌝ }
+    requires { ⌜ Stage (now image) layout (now texts) (now head) (now next) «slot_count» (now table) (now members) × Read (modelOf (now image)) «slot_count» (now table) × Countable mostRootsFaults counted ⌝ }
     ensures { λ c. ⌜ AllRooted (modelOf (now (image .entry))) «slot_count» (now (table .exit)) (now (report .entry)) counted (now (report .exit)) c
-        × Stage (now (image .entry)) layout (now (texts .entry)) (now (head .entry)) (now (next .entry)) «slot_count» (now (table .exit)) (now (members .exit)) × (total c ≤ 2000000) ⌝ }
+        × Stage (now (image .entry)) layout (now (texts .entry)) (now (head .entry)) (now (next .entry)) «slot_count» (now (table .exit)) (now (members .exit)) × Adds mostRootsFaults counted c ⌝ }
 {
     let n = layout.connectors.count;
     let mut c = counted;
@@ -126,7 +127,7 @@ fn all_roots<'a>(
     report: &mut [u8],
     counted: Counted,
 ) -> Counted
-    requires { ⌜ Stage (now image) layout (now texts) (now head) (now next) «slot_count» (now table) (now members) × Read (modelOf (now image)) «slot_count» (now table) × (total counted ≤ 1000000) ⌝ }
+    requires { ⌜ Stage (now image) layout (now texts) (now head) (now next) «slot_count» (now table) (now members) × Read (modelOf (now image)) «slot_count» (now table) × Countable mostUnifiedFaults counted ⌝ }
     ensures { λ c. ⌜ Unified (modelOf (now (image .entry))) «slot_count» (now (table .exit)) (now (report .entry)) counted (now (report .exit)) c ⌝ }
 {
     let c = unify_roots(
@@ -158,7 +159,7 @@ fn few_linked_roots<'a>(
     report: &mut [u8],
     counted: Counted,
 ) -> Counted
-    requires { ⌜ Laid (now image) layout × Tabled textTag (now image) (now texts) × Degrees (modelOf (now image)) (now degrees) × Read (modelOf (now image)) «slot_count» (now table) × (total counted ≤ 1000000) × (layout .connectors .count ≤ fewConnectors) × (layout .connections .count + layout .outputs .count ≤ fewLinks) ⌝ }
+    requires { ⌜ Laid (now image) layout × Tabled textTag (now image) (now texts) × Degrees (modelOf (now image)) (now degrees) × Read (modelOf (now image)) «slot_count» (now table) × Countable mostUnifiedFaults counted × (layout .connectors .count ≤ fewConnectors) × (layout .connections .count + layout .outputs .count ≤ fewLinks) ⌝ }
     ensures { λ c. ⌜ Unified (modelOf (now (image .entry))) «slot_count» (now (table .exit)) (now (report .entry)) counted (now (report .exit)) c ⌝ }
 {
     let mut head = [NO_LINK; FEW_CONNECTORS];
@@ -190,7 +191,7 @@ fn many_linked_roots<'a>(
     report: &mut [u8],
     counted: Counted,
 ) -> Counted
-    requires { ⌜ Laid (now image) layout × Tabled textTag (now image) (now texts) × Degrees (modelOf (now image)) (now degrees) × Read (modelOf (now image)) «slot_count» (now table) × (total counted ≤ 1000000) ⌝ }
+    requires { ⌜ Laid (now image) layout × Tabled textTag (now image) (now texts) × Degrees (modelOf (now image)) (now degrees) × Read (modelOf (now image)) «slot_count» (now table) × Countable mostUnifiedFaults counted ⌝ }
     ensures { λ c. ⌜ Unified (modelOf (now (image .entry))) «slot_count» (now (table .exit)) (now (report .entry)) counted (now (report .exit)) c ⌝ }
 {
     let mut head = [NO_LINK; MOST_CONNECTORS];
@@ -222,7 +223,7 @@ fn linked_roots<'a>(
     report: &mut [u8],
     counted: Counted,
 ) -> Counted
-    requires { ⌜ Laid (now image) layout × Tabled textTag (now image) (now texts) × Degrees (modelOf (now image)) (now degrees) × Read (modelOf (now image)) «slot_count» (now table) × (total counted ≤ 1000000) ⌝ }
+    requires { ⌜ Laid (now image) layout × Tabled textTag (now image) (now texts) × Degrees (modelOf (now image)) (now degrees) × Read (modelOf (now image)) «slot_count» (now table) × Countable mostUnifiedFaults counted ⌝ }
     ensures { λ c. ⌜ Unified (modelOf (now (image .entry))) «slot_count» (now (table .exit)) (now (report .entry)) counted (now (report .exit)) c ⌝ }
 {
     if layout.connectors.count <= FEW_CONNECTORS {
@@ -261,7 +262,7 @@ pub fn unify_clusters<'a>(
     report: &mut [u8],
     counted: Counted,
 ) -> Counted
-    requires { ⌜ Laid (now image) layout × Tabled textTag (now image) (now texts) × Degrees (modelOf (now image)) (now degrees) × Room (slotCount (modelOf (now image))) (now table) × (total counted ≤ 1000000) ⌝ }
+    requires { ⌜ Laid (now image) layout × Tabled textTag (now image) (now texts) × Degrees (modelOf (now image)) (now degrees) × Room (slotCount (modelOf (now image))) (now table) × Countable mostUnifiedFaults counted ⌝ }
     ensures { λ c. ⌜ Unified (modelOf (now (image .entry))) (slotCount (modelOf (now (image .entry)))) (now (table .exit)) (now (report .entry)) counted (now (report .exit)) c ⌝ }
 {
     let slot_count = load_slots(image, layout, table);

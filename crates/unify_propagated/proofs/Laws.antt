@@ -13,7 +13,7 @@ use Rattle.oce_diag.specs.declared.Counted.{Counted}
 use Rattle.oce_diag.specs.declared.DiagCode.the-variants.{CrossedBounds}
 use Rattle.oce_diag.specs.declared.Diagnostic.{Diagnostic}
 use Rattle.oce_diag.specs.declared.Subject.{Subject}
-use Rattle.oce_diag.specs.Putting.{total, Put, Emits}
+use Rattle.oce_diag.specs.Putting.{Put, Emits, Countable, Adds}
 use Rattle.oce_diag.proofs.Putting.{put-none, emits-start, emits-turn, emits-put, emits-few, emits-length}
 use Rattle.crossed_bounds.specs.Ranges.{rangeOf, crossed}
 use Rattle.crossed_bounds.specs.declared.Range.{Range}
@@ -24,6 +24,7 @@ use Rattle.unify_slots.specs.Table.{view}
 use Rattle.image_records.proofs.Laws.{connectors-counted, connectors-few, connections-few, boundary-outputs-few}
 use Rattle.unify_links.specs.Links.{linkCount, Linked}
 use Rattle.unify_links.proofs.Laws.{links-count, root-of-hit, root-of-none}
+use Rattle.oce_model.specs.Format.{mostConnectors}
 use Rattle.unify_propagated.specs.Propagated.{Headed, Stage, Tested, Propagated}
 
 -- ---- one root
@@ -66,7 +67,7 @@ module _ {image : List ℕ} {layout : Layout} {head : List ℕ} {n : ℕ} {table
       unfolding propagatedFaults
       test-same l e = record { put = rw (some-then l, ← ex, ← et, e) put-none; few = omega arith }
 
-      pub test-crossed : {b b′ : List ℕ} {c c′ : Counted} → Put b c (error CrossedBounds 6 8 (subjectOf (connector (modelOf image) r)) r ∷ []) b′ c′ → total c′ ≤ total c + 1
+      pub test-crossed : {b b′ : List ℕ} {c c′ : Counted} → Put b c (error CrossedBounds 6 8 (subjectOf (connector (modelOf image) r)) r ∷ []) b′ c′ → Adds 1 c c′
           → getD head r 0 < layout .connections .count + layout .outputs .count → t ≡ true → Tested (modelOf image) r n table b c b′ c′
       unfolding propagatedFaults
       test-crossed p f l e = record { put = rw (some-then l, ← ex, ← et, e) p; few = f }
@@ -79,10 +80,10 @@ pub record Tests (image : List ℕ) (layout : Layout) (head : List ℕ) (n roots
   pub filled : view n table ≡ filledSlots (modelOf image)
   pub emits : Emits (propagatedFaults (modelOf image) (view n table)) 1 roots b c b′ c′ r
   pub same : roots ≡ connectorCount (modelOf image)
-  pub before : total c ≤ 2000000
+  pub before : Countable mostConnectors c
 
 module _ {image : List ℕ} {layout : Layout} {head : List ℕ} {n roots : ℕ} {table b : List ℕ} {c : Counted} where
-  pub tests-start : Stage image layout head n table → view n table ≡ filledSlots (modelOf image) → roots ≡ layout .connectors .count → total c ≤ 2000000
+  pub tests-start : Stage image layout head n table → view n table ≡ filledSlots (modelOf image) → roots ≡ layout .connectors .count → Countable mostConnectors c
       → Tests image layout head n roots table b c b c 0
   tests-start y f e l = record { stage = y; filled = f; emits = emits-start; same = e ∙ connectors-counted (y .laid); before = l }
 
@@ -93,8 +94,8 @@ module _ {image : List ℕ} {layout : Layout} {head : List ℕ} {n roots : ℕ} 
     pub tests-inside : r < roots → r < layout .connectors .count
     tests-inside h = omega (arith, v .same, connectors-counted (v .stage .laid))
 
-    pub tests-few : r < roots → total c′ ≤ 3000000
-    tests-few h = omega (arith, v .emits .few, v .before, v .same, connectors-counted (v .stage .laid), connectors-few (v .stage .laid))
+    pub tests-countable : r < roots → Countable 1 c′
+    tests-countable h = omega (arith, v .emits .few, v .before, v .same, connectors-counted (v .stage .laid), connectors-few (v .stage .laid))
 
     -- a root's number is a u32
     pub tests-id : r < roots → r < wordRange

@@ -7,7 +7,7 @@ use Rattle.oce_model.specs.Model.{Model, modelOf, connectorCount}
 use Rattle.image_accept.specs.Layout.{Laid}
 use Rattle.image_accept.specs.declared.Layout.{Layout}
 use Rattle.oce_diag.specs.declared.Counted.{Counted}
-use Rattle.oce_diag.specs.Putting.{total, Put}
+use Rattle.oce_diag.specs.Putting.{Put, Adds}
 use Rattle.unify.specs.Unify.{propagatedFaults, propagated}
 use Rattle.unify_slots.specs.Table.{slotCount, view, Room}
 use Rattle.unify_links.specs.Links.{Leads}
@@ -29,9 +29,9 @@ pub record Stage (image : List ℕ) (layout : Layout) (head : List ℕ) (n : ℕ
 -- by root r
 pub record Tested (m : Model) (r n : ℕ) (table b : List ℕ) (c : Counted) (b′ : List ℕ) (c′ : Counted) : Type 0 where
   pub put : Put b c (propagatedFaults m (view n table) r) b′ c′
-  pub few : total c′ ≤ total c + 1
+  pub few : Adds 1 c c′
 
 -- by all roots
 pub record Propagated (m : Model) (b : List ℕ) (c : Counted) (b′ : List ℕ) (c′ : Counted) : Type 0 where
   pub put : Put b c (propagated m) b′ c′
-  pub few : total c′ ≤ total c + connectorCount m
+  pub few : Adds (connectorCount m) c c′

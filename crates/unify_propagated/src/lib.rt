@@ -22,11 +22,12 @@ ghost use Rattle.oce_model.specs.Model.{modelOf, connector};
 ghost use Rattle.image_accept.specs.Layout.{Laid};
 ghost use Rattle.oce_diag.specs.Diagnostics.{subjectOf, error};
 ghost use Rattle.oce_diag.specs.declared.DiagCode.the-variants.{CrossedBounds};
-ghost use Rattle.oce_diag.specs.Putting.{total, Put};
+ghost use Rattle.oce_diag.specs.Putting.{Put, Countable, Adds};
 ghost use Rattle.crossed_bounds.specs.Ranges.{rangeOf};
 ghost use Rattle.unify.specs.Slots.{slot};
 ghost use Rattle.unify.specs.Unify.{filledSlots};
 ghost use Rattle.unify_slots.specs.Table.{view, Room};
+ghost use Rattle.oce_model.specs.Format.{mostConnectors};
 ghost use Rattle.unify_propagated.specs.Propagated.{Stage, Tested, Propagated};
 
 const RULE: u8 = 6;
@@ -58,8 +59,8 @@ fn tell_crossed(
     report: &mut [u8],
     counted: Counted,
 ) -> Counted
-    requires { ⌜ Laid (now image) layout × (root .0 < layout .connectors .count) × (total counted ≤ 3000000) ⌝ }
-    ensures { λ c. ⌜ Put (now (report .entry)) counted (error CrossedBounds 6 8 (subjectOf (connector (modelOf (now (image .entry))) (root .0))) (root .0) ∷ []) (now (report .exit)) c × (total c ≤ total counted + 1) ⌝ }
+    requires { ⌜ Laid (now image) layout × (root .0 < layout .connectors .count) × Countable 1 counted ⌝ }
+    ensures { λ c. ⌜ Put (now (report .entry)) counted (error CrossedBounds 6 8 (subjectOf (connector (modelOf (now (image .entry))) (root .0))) (root .0) ∷ []) (now (report .exit)) c × Adds 1 counted c ⌝ }
 {
     let s = subject(image, layout, root);
     let e = error(DiagCode::CrossedBounds, RULE, CROSSED_DETAIL, s, root.0);
@@ -77,7 +78,7 @@ fn check_propagated_cluster(
     report: &mut [u8],
     counted: Counted,
 ) -> Counted
-    requires { ⌜ Stage (now image) layout (now head) «slot_count» (now table) × (root .0 < layout .connectors .count) × (total counted ≤ 3000000) ⌝ }
+    requires { ⌜ Stage (now image) layout (now head) «slot_count» (now table) × (root .0 < layout .connectors .count) × Countable 1 counted ⌝ }
     ensures { λ c. ⌜ Tested (modelOf (now (image .entry))) (root .0) «slot_count» (now (table .entry)) (now (report .entry)) counted (now (report .exit)) c ⌝ }
 {
     let links = layout.connections.count + layout.outputs.count;
@@ -102,7 +103,7 @@ pub fn check_propagated_clusters(
     report: &mut [u8],
     counted: Counted,
 ) -> Counted
-    requires { ⌜ Stage (now image) layout (now head) «slot_count» (now table) × (view «slot_count» (now table) ≡ filledSlots (modelOf (now image))) × (total counted ≤ 2000000) ⌝ }
+    requires { ⌜ Stage (now image) layout (now head) «slot_count» (now table) × (view «slot_count» (now table) ≡ filledSlots (modelOf (now image))) × Countable mostConnectors counted ⌝ }
     ensures { λ c. ⌜ Propagated (modelOf (now (image .entry))) (now (report .entry)) counted (now (report .exit)) c ⌝ }
 {
     let n = layout.connectors.count;

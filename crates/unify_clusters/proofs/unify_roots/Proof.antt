@@ -2,7 +2,7 @@
 use borrow.Author.Needs.{needs}
 use Prim.Native.Nat.{_-_}
 use Rattle.unify_clusters.proofs.Roots.{Roots}
-use Rattle.unify_clusters.proofs.Roots.{roots-start, roots-stage, roots-inside, roots-id, roots-fit, roots-turn, roots-done, roots-total, roots-report, roots-table, roots-members}
+use Rattle.unify_clusters.proofs.Roots.{roots-start, roots-stage, roots-inside, roots-id, roots-fit, roots-turn, roots-done, roots-adds, roots-countable, roots-report, roots-table, roots-members}
 use Rattle.unify_clusters.proofs.unify_roots.Statement.{statement}
 use Rattle.unify_clusters.proofs.unify_roots.Tie as tie
 
@@ -22,11 +22,11 @@ unify-roots-spec =
     μ-loop
     (λ c. search mine)
     (λ c. search (roots-id, needs))
-    (λ c κs. (search roots-stage, search roots-inside, search roots-total))
+    (λ c κs. (search roots-stage, search roots-inside, search roots-countable))
     (λ c. search mine)
     (λ c. search mine)
     (λ c. search mine)
     (λ c. search mine)
     (λ c. search mine)
     (λ c. search mine)
-    (λ c. (search mine, search roots-stage, search (roots-total, needs))))
+    (λ c. (search mine, search roots-stage, search (roots-adds, needs))))

@@ -2,7 +2,7 @@
 use borrow.Author.Needs.{needs}
 use Prim.Native.Nat.{_-_}
 use Rattle.unify_propagated.proofs.Laws.{Tests}
-use Rattle.unify_propagated.proofs.Laws.{tests-start, tests-stage, tests-inside, tests-few, tests-id, tests-fit, tests-turn, tests-done, tests-report}
+use Rattle.unify_propagated.proofs.Laws.{tests-start, tests-stage, tests-inside, tests-countable, tests-id, tests-fit, tests-turn, tests-done, tests-report}
 use Rattle.unify_propagated.proofs.check_propagated_clusters.Statement.{statement}
 use Rattle.unify_propagated.proofs.check_propagated_clusters.Tie as tie
 
@@ -12,7 +12,7 @@ Inv-loop image layout head slots table report₀ n c₀ r₀ report c r = Tests 
 abbrev μ-loop : tie.MeasureT-loop
 μ-loop image layout head slots table report₀ n c₀ r₀ report c r = n - r
 
-ruleset mine = (tests-start, tests-stage, tests-inside, tests-few, tests-id, tests-fit, tests-turn, tests-done, tests-report, needs)
+ruleset mine = (tests-start, tests-stage, tests-inside, tests-countable, tests-id, tests-fit, tests-turn, tests-done, tests-report, needs)
 
 pub check-propagated-clusters-spec : {M : Type 1} → statement M
 check-propagated-clusters-spec =
@@ -22,7 +22,7 @@ check-propagated-clusters-spec =
     μ-loop
     (λ c. search mine)
     (λ c. search mine)
-    (λ c κs. (search tests-stage, search tests-inside, search tests-few))
+    (λ c κs. (search tests-stage, search tests-inside, search tests-countable))
     (λ c. search mine)
     (λ c. search mine)
     (λ c. search mine)
