@@ -1,12 +1,12 @@
 -- Laws of the filled image: one slot's bytes, where they stand, and the loop over slots.
-use Prim.Native.Nat.{ℕ, zero, suc, _+_, _*_, _-_, _%_, _≤_, _<_, _^_}
+use Prim.Native.Nat.{ℕ, zero, suc, _+_, _*_, _-_, _%_, _≤_, _<_}
 use native.Mathlib.Numerals.{add-one}
 use native.Mathlib.Omega.{arith}
 use mathlib.Core.Path.{_≡_, refl, sym, ap, _∙_}
 use mathlib.Core.List.{List, [], _∷_, _++_, append-assoc}
 use lib.ListN.{length, take, drop, length-append}
 use lib.Seq.{take-append-le, drop-append-le}
-use Rattle.base.specs.Lists.{each, steps}
+use Rattle.base.specs.Lists.{steps}
 use Rattle.base.specs.Buffers.{patch, startsWith}
 use Rattle.base.proofs.Buffers.{patch-length, patch-patch}
 use Rattle.base.proofs.Patches.{patched, patched-next, patched-length}

@@ -13,7 +13,7 @@ use Rattle.oce_model.specs.Model.{Model, modelOf, connectorCount}
 use Rattle.oce_diag.specs.Diagnostics.{hasError, errors}
 use Rattle.oce_diag.specs.declared.Diagnostic.{Diagnostic}
 use Rattle.oce_diag.specs.declared.Counted.{Counted}
-use Rattle.oce_diag.specs.Putting.{total, Adds, Put}
+use Rattle.oce_diag.specs.Putting.{Adds, Put}
 use Rattle.oce_diag.proofs.Diagnostics.{errors-append, no-errors, some-error}
 use Rattle.oce_diag.proofs.Putting.{put-then}
 use Rattle.image_accept.specs.Layout.{Laid}

@@ -13,7 +13,7 @@ use Rattle.numbers.specs.Bytes.{wordRange}
 use Rattle.oce_model.specs.Model.{Model, modelOf, connectorCount}
 use Rattle.image_accept.specs.declared.Layout.{Layout}
 use Rattle.oce_diag.specs.declared.Counted.{Counted}
-use Rattle.oce_diag.specs.Putting.{total, Emits, Countable, Adds}
+use Rattle.oce_diag.specs.Putting.{Emits, Countable, Adds}
 use Rattle.oce_diag.proofs.Putting.{put-none, emits-start, emits-turn, emits-put, emits-length, emits-few}
 use Rattle.unify.specs.Clusters.{driven, isRoot}
 use Rattle.unify.specs.Unify.{fillRoot, rootFaults, filledTo, filledSlots, rule6}

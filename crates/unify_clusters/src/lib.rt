@@ -36,7 +36,7 @@ fn unify_root<'a>(
     report: &mut [u8],
     counted: Counted,
 ) -> Counted
-    requires { ⌜ Stage (now image) layout (now texts) (now head) (now next) «slot_count» (now table) (now members) × (root .0 < layout .connectors .count) × (total counted ≤ 2000000) ⌝ }
+    requires { ⌜ Stage (now image) layout (now texts) (now head) (now next) «slot_count» (now table) (now members) × (root .0 < layout .connectors .count) × Countable mostClusterFaults counted ⌝ }
     ensures { λ c. ⌜ Rooted (modelOf (now (image .entry))) (root .0) «slot_count» (now (table .entry)) (now (table .exit)) (now (report .entry)) counted (now (report .exit)) c ⌝ }
 {
     let c = gather(image, layout, head, next, root, members);

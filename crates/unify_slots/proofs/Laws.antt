@@ -13,12 +13,10 @@ use lib.ListN.{length, getD, set, length-set}
 use lib.Seq.{getD-set-same, getD-set-other, set-getD}
 use borrow.Author.Tests.{eq-eqb, ne-eqb}
 use Rattle.base.specs.Lists.{tab}
-use Rattle.base.proofs.Lists.{length-tab, getD-tab, set-tab, each-same, each-next}
+use Rattle.base.proofs.Lists.{getD-tab, set-tab, each-same, each-next}
 use Rattle.numbers.specs.Bytes.{bit, signed64, real64}
 use Rattle.oce_model.specs.Format.{quantityBit, unitBit, displayUnitBit, minBit, maxBit, nominalBit}
 use Rattle.oce_model.specs.Attributes.{Attrs, noAttrs, num, marked, declaredAt, declareAt}
-use Rattle.oce_model.specs.declared.RealAttrs.{RealAttrs}
-use Rattle.oce_model.specs.declared.IntAttrs.{IntAttrs}
 use Rattle.image_records.specs.Records.{realAttrs, intAttrs}
 use Rattle.unify.specs.Slots.{Slots, slot, kindOf, bitOf, value, put}
 use Rattle.unify_slots.specs.Table.{width, numberCount, kindPlace, marksPlace, attrsOf, view, declares, Room, Declared, PutOne}
