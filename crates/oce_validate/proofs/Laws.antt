@@ -36,6 +36,8 @@ use Rattle.outcome.specs.declared.Answer.the-variants.{Refused, Checked}
 use Rattle.rules.specs.Ran.{Ready, Ran}
 use Rattle.moved.specs.Moved.{Bytes}
 use Rattle.moved.proofs.FilledImage.{filled-undone}
+use Rattle.filling.specs.Small.{Small}
+use Rattle.filling.proofs.Small.{filled-small}
 use Rattle.oce_validate.specs.Answered.{fewSlots, Answered, Tallied, Early}
 
 -- ---- a run of all rules
@@ -95,6 +97,9 @@ module _ {s : List ℕ} {l : Layout} (h : Laid s l) where
   pub slots-room : {table : List ℕ} {c : Counted} {n : ℕ} → Tallied s table c → n ≡ l .connectors .count + l .outputs .count → Room n table
   slots-room t e = rw (slots-counted e) (t .room)
 
+  pub slots-small : {table : List ℕ} {c : Counted} {n : ℕ} → Tallied s table c → n ≡ l .connectors .count + l .outputs .count → Bytes s → Small (view n table)
+  slots-small t e bytes = rw (slots-counted e, t .slots) (filled-small s bytes)
+
   pub slots-few : Fits w64 (l .connectors .count + l .outputs .count)
   slots-few = record { fits = omega (arith, connectors-few h, boundary-outputs-few h) }
 
@@ -119,10 +124,6 @@ module _ {s texts blocks table : List ℕ} {l : Layout} (h : Laid s l) (t : Tabl
 
   pub ready-most : width * (mostConnectors + mostBoundaryOutputs) ≤ length table → Ready s l texts blocks table
   ready-most = ready-for (mostConnectors + mostBoundaryOutputs) (omega (arith, connectors-few h, boundary-outputs-few h))
-
--- the table may be used again
-pub ready-again : {s texts blocks table table′ : List ℕ} {l : Layout} {c : Counted} → Ready s l texts blocks table → Tallied s table′ c → Ready s l texts blocks table′
-ready-again v t = record { laid = v .laid; text-table = v .text-table; block-table = v .block-table; room = t .room }
 
 -- ---- the answer
 

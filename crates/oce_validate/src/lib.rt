@@ -1,10 +1,10 @@
 // The checking call.
-use image_accept::Acceptance;
-use image_accept::Layout;
-use image_accept::accept;
 use base::copy_at;
 use filling::copy_image;
 use filling::fill_image;
+use image_accept::Acceptance;
+use image_accept::Layout;
+use image_accept::accept;
 use oce_diag::Counted;
 use oce_diag::DIAGNOSTIC_SIZE;
 use oce_model::MOST_BLOCKS;
@@ -57,13 +57,7 @@ fn tally<'a>(
 }
 
 // The filled image: the attributes of the table where there is no error, otherwise the image's own.
-fn leave_filled(
-    image: &[u8],
-    layout: Layout,
-    table: &[u64],
-    counted: Counted,
-    filled: &mut [u8],
-)
+fn leave_filled(image: &[u8], layout: Layout, table: &[u64], counted: Counted, filled: &mut [u8])
     requires { ⌜ Laid (now image) layout × Tallied (now image) (now table) counted × (length (now image) ≤ length (now filled)) ⌝ }
     ensures { λ _. ⌜ now (filled .exit) ≡ startsWith (filledOf (now (image .entry))) (now (filled .entry)) ⌝ }
 {
@@ -113,16 +107,7 @@ fn leave<'a>(
     ensures { λ a. ⌜ Answered (now (image .entry)) (now (filled .entry)) (now (report .entry)) a (now (filled .exit)) (now (report .exit)) ⌝ }
 {
     leave_filled(image, layout, table, counted, filled);
-    leave_report(
-        image,
-        layout,
-        texts,
-        blocks,
-        table,
-        counted,
-        early,
-        report,
-    );
+    leave_report(image, layout, texts, blocks, table, counted, early, report);
     Answer::Checked {
         errors: counted.errors as u32,
         warnings: counted.warnings as u32,
@@ -177,15 +162,7 @@ fn check_few<'a>(
     ensures { λ a. ⌜ Answered (now (image .entry)) (now (filled .entry)) (now (report .entry)) a (now (filled .exit)) (now (report .exit)) ⌝ }
 {
     let mut table = [0u64; FEW_PLACES];
-    check_over(
-        image,
-        layout,
-        texts,
-        blocks,
-        &mut table,
-        filled,
-        report,
-    )
+    check_over(image, layout, texts, blocks, &mut table, filled, report)
 }
 
 // An accepted image with any number of slots.
@@ -201,15 +178,7 @@ fn check_many<'a>(
     ensures { λ a. ⌜ Answered (now (image .entry)) (now (filled .entry)) (now (report .entry)) a (now (filled .exit)) (now (report .exit)) ⌝ }
 {
     let mut table = [0u64; MOST_PLACES];
-    check_over(
-        image,
-        layout,
-        texts,
-        blocks,
-        &mut table,
-        filled,
-        report,
-    )
+    check_over(image, layout, texts, blocks, &mut table, filled, report)
 }
 
 // An accepted image: refusal 9, or on to its rules.

@@ -1,16 +1,16 @@
 // All rules in their order, over one report.
+use crossed_records::check_crossed_bounds;
 use image_accept::Layout;
+use oce_diag::Counted;
+use oce_model::MOST_CONNECTORS;
 use structural_arena_ids::check_arena_ids;
 use structural_assignment::check_single_assignment;
-use crossed_records::check_crossed_bounds;
 use structural_degrees::in_degrees;
 use structural_externals::EXTERNALS_COLUMN;
 use structural_externals::list_externals;
-use oce_diag::Counted;
-use oce_model::MOST_CONNECTORS;
-use unify_clusters::unify_clusters;
 use structural_wiring::check_boundary_outputs;
 use structural_wiring::check_connections;
+use unify_clusters::unify_clusters;
 ghost use mathlib.Core.List.{_++_};
 ghost use Prim.Native.Nat.{_+_, _*_, _≤_};
 ghost use Rattle.oce_model.specs.Format.{textTag, blockTag};

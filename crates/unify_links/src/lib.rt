@@ -1,12 +1,12 @@
 // The clusters of rule 6, from lists of links: the connections, and behind them the boundary outputs.
 use image_accept::Layout;
 use image_attributes::attrs_kind;
-use oce_model::ConnectorId;
-use oce_model::DIR_IN;
 use image_records::boundary_output;
 use image_records::boundary_output_attrs;
 use image_records::connection;
 use image_records::connector;
+use oce_model::ConnectorId;
+use oce_model::DIR_IN;
 ghost use mathlib.Core.Path.{_≡_};
 ghost use Prim.Native.Nat.{_+_, _-_, _≤_, _<_};
 ghost use lib.ListN.{length, getD, set};

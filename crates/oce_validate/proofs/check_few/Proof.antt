@@ -9,8 +9,6 @@ check-few-spec =
     tie.close
     (tie.spec
     (λ c. search needs)
-    (λ c. search needs)
-    (λ c. search needs)
     (λ c κs. (search (ready-few, needs), search needs))
     (λ c. search needs)
     (λ c. search needs)

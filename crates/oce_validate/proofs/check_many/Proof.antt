@@ -9,8 +9,6 @@ check-many-spec =
     tie.close
     (tie.spec
     (λ c. search needs)
-    (λ c. search needs)
-    (λ c. search needs)
     (λ c κs. (search (ready-most, needs), search needs))
     (λ c. search needs)
     (λ c. search needs)

@@ -12,8 +12,4 @@ run-over-spec =
     (λ c κs. search needs)
     (λ c. search needs)
     (λ c. search needs)
-    (λ c. search needs)
-    (λ c. search needs)
-    (λ c.
-    let p = c .before .before .before .before .before .before .before .before .before .before .before .before .before .before .before .first-five .ensures in
-    ran (c .before .before .before .before .before .before .before .before .before .before .before .before .before .before .before .before .before .before .before .before .before .before .before .before .before .before .pre .0 .laid) (p .0) (p .1) (c .before .before .before .before .before .before .before .before .unify-clusters .ensures)))
+    (λ c. search (ran, needs)))

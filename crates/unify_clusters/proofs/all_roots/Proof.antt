@@ -9,7 +9,7 @@ all-roots-spec =
     tie.close
     (tie.spec
     (λ c κs. search needs)
-    (λ c κs. let done = c .before .before .before .before .before .before .before .before .before .before .unify-roots .ensures in (stage-after (done .1), done .0 .slots, done .2))
+    (λ c κs. let done = c .before .before .before .before .before .before .before .before .before .before .unify-roots .ensures in (stage-after (done .1), done .0 .slots, search needs))
     (λ c. search needs)
     (λ c. search needs)
     (λ c. search needs)
