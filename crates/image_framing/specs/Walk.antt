@@ -6,17 +6,22 @@ use mathlib.Core.List.{List, [], _∷_}
 use mathlib.Core.Option.{Option, none, some}
 use lib.Dec.{leb, ltb}
 use lib.ListN.{length}
-use Rattle.numbers.specs.Bytes.{byte}
-use Rattle.oce_model.specs.Format.{leadingBytes, longestImage}
-use Rattle.oce_model.specs.Image.{fieldAt, ordOf, fields, stop, first}
+use Rattle.numbers.specs.Bytes.{byte, le16}
+use Rattle.oce_model.specs.Format.{leadingBytes, fieldLengthAt, longestImage}
+use Rattle.oce_model.specs.Image.{fieldEnd, fieldAt, ordOf, fields, stop, first}
 use Rattle.oce_model.specs.Refusals.{badTag}
 use Rattle.oce_model.specs.declared.Field.{Field}
+use Rattle.image_framing.specs.declared.Leading.{Leading}
 use Rattle.image_framing.specs.declared.Found.{Found}
 use Rattle.image_framing.specs.declared.Found.the-variants.{At, Nothing}
 use Rattle.image_framing.specs.declared.Framed.{Framed}
 use Rattle.image_framing.specs.declared.Framed.the-variants.{Cut, Whole}
 
 -- ---- one field and the next
+
+-- what stands at an offset: a field's tag and length, and whether all of it lies in the image
+abbrev pub leadingAt : List ℕ → ℕ → Leading
+leadingAt s at = record { tag = byte s at; len = le16 s (at + fieldLengthAt); whole = leb (fieldEnd s at) (length s) }
 
 -- the field at an offset, behind n fields with the tag prev
 unfoldable pub placed : List ℕ → ℕ → ℕ → ℕ → Field

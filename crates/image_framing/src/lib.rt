@@ -3,7 +3,6 @@
 use image_faults::bad_tag;
 use image_faults::is_at_fault;
 use numbers::at16;
-use numbers::byte_at;
 use numbers::read16;
 use numbers::wide;
 use oce_model::FIELD_LENGTH_AT;
@@ -13,11 +12,11 @@ ghost use mathlib.Core.Path.{_≡_};
 ghost use Prim.Native.Nat.{_<_, _≤_};
 ghost use lib.Dec.{ltb};
 ghost use lib.ListN.{length};
-ghost use Rattle.numbers.specs.Bytes.{shortRange};
+ghost use Rattle.numbers.specs.Bytes.{byteRange, shortRange};
 ghost use Rattle.oce_model.specs.Format.{longestImage};
 ghost use Rattle.oce_model.specs.Image.{ordOf, fields, first};
 ghost use Rattle.oce_model.specs.Refusals.{fault};
-ghost use Rattle.image_framing.specs.Walk.{placed, start, after, endOf, Ended, foundOf, firstOf, framed};
+ghost use Rattle.image_framing.specs.Walk.{leadingAt, placed, start, after, endOf, Ended, foundOf, firstOf, framed};
 
 // The offset of a field at fault.
 pub enum Found {
@@ -44,28 +43,60 @@ fn ord_of(prev: usize, n: usize, t: usize) -> usize
     0
 }
 
-// The field at an offset, behind n fields with the tag prev.
-fn field_at(s: &[u8], at: usize, prev: usize, n: usize) -> Field
-    requires { ⌜ at ≤ longestImage ⌝ }
-    ensures { λ r. ⌜ (r ≡ placed (now (s .entry)) at prev n) × (r .len < shortRange) ⌝ }
+// What stands at an offset: a tag, the length of the contents, and whether all of it lies in the image. Bytes
+// past the end count as 0.
+pub struct Leading {
+    pub tag: usize,
+    pub len: usize,
+    pub whole: bool,
+}
+
+// Reads what stands at an offset.
+pub fn leading_at(s: &[u8], at: usize) -> Leading
+    ensures { λ r. ⌜ (r ≡ leadingAt (now (s .entry)) at) × (r .tag < byteRange) × (r .len < shortRange) ⌝ }
 {
-    if at + LEADING_BYTES <= s.len() {
-        let tag = wide(s[at]);
-        return Field {
-            at,
-            tag,
-            len: read16(s, at + FIELD_LENGTH_AT),
-            prev,
-            ord: ord_of(prev, n, tag),
+    if s.len() <= at {
+        return Leading {
+            tag: 0,
+            len: 0,
+            whole: false,
         };
     }
-    let tag = byte_at(s, at);
+    let left = s.len() - at;
+    let tag = wide(s[at]);
+    if left < LEADING_BYTES {
+        return Leading {
+            tag,
+            len: at16(s, at + FIELD_LENGTH_AT),
+            whole: false,
+        };
+    }
+    let len = read16(s, at + FIELD_LENGTH_AT);
+    if left < LEADING_BYTES + len {
+        return Leading {
+            tag,
+            len,
+            whole: false,
+        };
+    }
+    Leading {
+        tag,
+        len,
+        whole: true,
+    }
+}
+
+// The field at an offset, behind n fields with the tag prev.
+fn field_at(s: &[u8], at: usize, prev: usize, n: usize) -> Field
+    ensures { λ r. ⌜ (r ≡ placed (now (s .entry)) at prev n) × (r .len < shortRange) ⌝ }
+{
+    let l = leading_at(s, at);
     Field {
         at,
-        tag,
-        len: at16(s, at + FIELD_LENGTH_AT),
+        tag: l.tag,
+        len: l.len,
         prev,
-        ord: ord_of(prev, n, tag),
+        ord: ord_of(prev, n, l.tag),
     }
 }
 

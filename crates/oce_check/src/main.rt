@@ -1,6 +1,7 @@
 // Checks a model image and prints its report: of standard input, or of the file that an argument names.
-// A second argument names a new file for the filled image. After --fields the fields of an image are listed.
+// A second argument names a new file for the filled image, or is - for standard output. After --fields the fields of an image are listed.
 use base::part_of;
+use image_texts::same_bytes;
 use libc::STDERR_FILENO;
 use libc::STDIN_FILENO;
 use libc::STDOUT_FILENO;
@@ -9,7 +10,6 @@ use print_check::Input;
 use print_check::print_check;
 use print_check::print_fields;
 use print_check::read_image;
-use image_texts::same_bytes;
 
 // One byte more than the longest image, to notice one that is longer.
 const READ: usize = LONGEST_IMAGE + 1;
@@ -29,7 +29,7 @@ fn print_help() {
     );
     io::write_all(
         STDOUT_FILENO,
-        b"  oce_check IMAGE FILLED     and writes the filled image to a new file\n",
+        b"  oce_check IMAGE FILLED     and writes the filled image to a new file, or for - behind the report\n",
     );
     io::write_all(
         STDOUT_FILENO,
@@ -77,6 +77,10 @@ fn write_filled_as(i: usize, filled: &[u8]) {
         complain(b"the second argument is too long");
         return;
     }
+    if same_bytes(&name[..n], b"-") {
+        io::write_all(STDOUT_FILENO, filled);
+        return;
+    }
     write_filled(&name[..n], filled);
 }
 
@@ -84,13 +88,13 @@ fn write_filled_as(i: usize, filled: &[u8]) {
 fn check_image(image: &[u8], i: usize) {
     let mut filled = [0u8; LONGEST_IMAGE];
     let outcome = print_check(STDOUT_FILENO, image, &mut filled);
-    if !outcome.is_printed {
+    if !outcome.printed {
         complain(b"not all of the report could be written");
     }
     if os::arg_count() <= i {
         return;
     }
-    if !outcome.is_checked {
+    if !outcome.checked {
         complain(b"a refused image gives no filled image");
         return;
     }

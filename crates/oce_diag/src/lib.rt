@@ -7,12 +7,13 @@ use oce_model::NO_TEXT;
 ghost use mathlib.Core.Path.{_≡_};
 ghost use mathlib.Core.List.{[], _∷_};
 ghost use Prim.Native.Nat.{_+_, _<_, _≤_};
+ghost use lib.ListN.{length};
 ghost use Rattle.base.specs.Lists.{only};
 ghost use Rattle.oce_diag.specs.Diagnostics.{connectorSubject, blockSubject, error, warning, errors, warnings};
 ghost use Rattle.oce_diag.specs.Encoding.{severityNumber, codeNumber, subjectKind, subjectNumber, diagnosticBytes};
 ghost use Rattle.oce_diag.specs.Putting.{putOne, total, Put, Countable, Adds};
 ghost use Rattle.numbers.specs.Bytes.{shortRange, wordRange, byte};
-ghost use Rattle.oce_diag.specs.Decoded.{severityOf, codeOf, subjectFrom, diagnosticAt};
+ghost use Rattle.oce_diag.specs.Decoded.{severityOf, codeOf, subjectFrom, decodedAt};
 
 // The Rust's `Severity`, less `Info`, which no rule gives.
 pub enum Severity {
@@ -320,12 +321,11 @@ fn byte_of(s: &[u8], at: usize) -> u8
     byte_at(s, at) as u8
 }
 
-// Diagnostic i of a report.
-pub fn diagnostic_at(report: &[u8], i: usize) -> Diagnostic
-    requires { ⌜ i < wordRange ⌝ }
-    ensures { λ r. ⌜ r ≡ diagnosticAt (now (report .entry)) i ⌝ }
+// The diagnostic whose bytes begin at an offset of a report.
+pub fn decode(report: &[u8], at: usize) -> Diagnostic
+    requires { ⌜ at ≤ length (now report) ⌝ }
+    ensures { λ r. ⌜ r ≡ decodedAt (now (report .entry)) at ⌝ }
 {
-    let at = DIAGNOSTIC_SIZE * i;
     let number = at32(report, at + NUMBER_PLACE) as u32;
     let severity = severity_of(byte_of(report, at + SEVERITY_PLACE));
     let code = code_of(byte_of(report, at + CODE_PLACE));

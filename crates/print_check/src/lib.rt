@@ -1,9 +1,9 @@
 // A model image checked, and its report printed in large pieces; or its fields listed.
+use base::part_of;
+use field_lines::put_fields;
 use image_accept::Acceptance;
 use image_accept::Layout;
 use image_accept::accept;
-use base::part_of;
-use field_lines::put_fields;
 use oce_model::LONGEST_IMAGE;
 use oce_model::MOST_BLOCKS;
 use oce_model::MOST_TEXTS;
@@ -12,10 +12,16 @@ use outcome::Answer;
 use printed::LONGEST_FIRST_LINE;
 use printed::first_line;
 use printed::put_lines;
-ghost use Prim.Native.Nat.{_<_};
+ghost use mathlib.Core.Path.{_≡_};
+ghost use mathlib.Core.Bool.{true};
+ghost use Prim.Native.Nat.{_<_, _≤_};
+ghost use lib.ListN.{length};
 ghost use Rattle.numbers.specs.Bytes.{wordRange};
-ghost use Rattle.oce_model.specs.Format.{textTag};
+ghost use Rattle.oce_model.specs.Format.{textTag, longestImage};
 ghost use Rattle.image_accept.specs.Layout.{Laid, Tabled};
+ghost use Rattle.outcome.specs.Answer.{answer, filledAfter};
+ghost use Rattle.printed.specs.Pieces.{Row};
+ghost use Rattle.print_check.specs.Outcome.{longestReport, lentReport, isChecked, countOf, readLength};
 
 // The bytes of a piece.
 const PIECE: usize = 65536;
@@ -24,15 +30,15 @@ const PIECE: usize = 65536;
 const LONGEST_REPORT: usize = 65535;
 
 // Prints the lines of a report's diagnostics, as many as count says, and says whether all were written.
-fn print_lines(
+fn print_lines<'a>(
     fd: i32,
-    image: &[u8],
+    image: &'a [u8],
     layout: Layout,
-    texts: &[usize; MOST_TEXTS],
-    report: &[u8],
+    texts: &'a [usize; MOST_TEXTS],
+    report: &'a [u8],
     count: usize,
 ) -> bool
-    requires { ⌜ Laid (now image) layout × Tabled textTag (now image) (now texts) × (count < wordRange) ⌝ }
+    requires { ⌜ Laid (now image) layout × Tabled textTag (now image) (now texts) × (count < wordRange) × Row (now report) count ⌝ }
 {
     let mut out = [0u8; PIECE];
     let mut next = 0;
@@ -47,7 +53,9 @@ fn print_lines(
 }
 
 // The same for an image that was accepted. No report that was lent holds as many as it has bytes.
-fn print_report(fd: i32, image: &[u8], report: &[u8], count: usize) -> bool {
+fn print_report<'a>(fd: i32, image: &'a [u8], report: &'a [u8], count: usize) -> bool
+    requires { ⌜ Row (now report) count ⌝ }
+{
     if LONGEST_REPORT < count {
         return false;
     }
@@ -67,7 +75,9 @@ fn print_first(fd: i32, answer: Answer) -> bool {
 }
 
 // Prints an answer, and the diagnostics of a report that it counts.
-fn print_all(fd: i32, image: &[u8], report: &[u8], answer: Answer) -> bool {
+fn print_all<'a>(fd: i32, image: &'a [u8], report: &'a [u8], answer: Answer) -> bool
+    requires { ⌜ Row (now report) (countOf answer) ⌝ }
+{
     if !print_first(fd, answer) {
         return false;
     }
@@ -84,11 +94,13 @@ fn print_all(fd: i32, image: &[u8], report: &[u8], answer: Answer) -> bool {
 
 // A check, and whether all of its report was printed.
 pub struct Outcome {
-    pub is_checked: bool,
-    pub is_printed: bool,
+    pub checked: bool,
+    pub printed: bool,
 }
 
-fn is_checked(answer: Answer) -> bool {
+fn is_checked(answer: Answer) -> bool
+    ensures { λ r. ⌜ r ≡ isChecked answer ⌝ }
+{
     match answer {
         Answer::Refused { number: _, at: _ } => false,
         Answer::Checked {
@@ -99,18 +111,23 @@ fn is_checked(answer: Answer) -> bool {
 }
 
 // Checks an image and prints its report; filled gets the filled image, where there is no refusal.
-pub fn print_check(fd: i32, image: &[u8], filled: &mut [u8]) -> Outcome {
+pub fn print_check(fd: i32, image: &[u8], filled: &mut [u8]) -> Outcome
+    ensures checked { λ r. ⌜ r .checked ≡ isChecked (answer (now (image .entry)) (length (now (filled .entry))) longestReport) ⌝ }
+    ensures filled { λ _. ⌜ now (filled .exit) ≡ filledAfter (now (image .entry)) (now (filled .entry)) lentReport ⌝ }
+{
     let mut report = [0u8; LONGEST_REPORT];
     let answer = check(image, filled, &mut report);
     Outcome {
-        is_checked: is_checked(answer),
-        is_printed: print_all(fd, image, &report, answer),
+        checked: is_checked(answer),
+        printed: print_all(fd, image, &report, answer),
     }
 }
 
 // Prints a line for each field of an image, up to the first that runs past its end, and says whether all
 // were written.
-pub fn print_fields(fd: i32, image: &[u8]) -> bool {
+pub fn print_fields(fd: i32, image: &[u8]) -> bool
+    ensures { λ r. ⌜ (r ≡ true → length (now (image .entry)) ≤ longestImage) ⌝ }
+{
     if LONGEST_IMAGE < image.len() {
         return false;
     }
@@ -134,7 +151,9 @@ pub enum Input {
     Unreadable,
 }
 
-fn read_from(fd: i32, image: &mut [u8]) -> Input {
+fn read_from(fd: i32, image: &mut [u8]) -> Input
+    ensures { λ r. ⌜ readLength r ≤ length (now (image .exit)) ⌝ }
+{
     let n = io::read_full(fd, image);
     if n == 0 {
         let mut more = [0u8; 1];
@@ -146,7 +165,9 @@ fn read_from(fd: i32, image: &mut [u8]) -> Input {
 }
 
 // Reads a file to the start of a buffer, as much of it as that holds; says why if it can't be read.
-pub fn read_image(name: &[u8], image: &mut [u8]) -> Input {
+pub fn read_image(name: &[u8], image: &mut [u8]) -> Input
+    ensures { λ r. ⌜ readLength r ≤ length (now (image .exit)) ⌝ }
+{
     let fd = os::open_read(name);
     if fd < 0 {
         os::fail(name);

@@ -5,5 +5,6 @@ pub mod Groups
 pub mod Rules
 -- Laws of the printed report, its pieces as a whole, and document 01's example.
 pub mod Laws
+pub mod Row
 pub mod Whole
 pub mod Examples

@@ -2,8 +2,8 @@
 use Prim.Native.Nat.{ℕ}
 use Rattle.subject.specs.Computed.{computed as computedSubject}
 use Rattle.outcome.specs.Computed.{computed as computedOutcome}
-use Rattle.printed.specs.Printed.{severityName, codeName, subjectField, line, lines, firstLine, printed, linesFrom}
+use Rattle.printed.specs.Printed.{severityName, codeName, subjectField, line, lineAt, lines, firstLine, printed, linesFrom}
 
 unfoldable pub computed : ℕ
-unfolding computedSubject computedOutcome severityName codeName subjectField line lines firstLine printed linesFrom
+unfolding computedSubject computedOutcome severityName codeName subjectField line lineAt lines firstLine printed linesFrom
 computed = 0

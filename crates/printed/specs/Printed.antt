@@ -15,7 +15,9 @@ use Rattle.oce_diag.specs.declared.Diagnostic.{Diagnostic}
 use Rattle.decimal.specs.Decimal.{decimal, mostDigits, mostByteDigits}
 use Rattle.oce_diag.specs.Encoding.{textSubjectKind, connectorSubjectKind, blockSubjectKind}
 use Rattle.subject.specs.Subject.{subjectText}
-use Rattle.oce_diag.specs.Decoded.{diagnosticAt}
+use Rattle.oce_diag.specs.Decoded.{decodedAt, diagnosticAt}
+use Rattle.reader.specs.declared.Found.{Found}
+use Rattle.reader.specs.declared.Found.the-variants as found
 use Rattle.outcome.specs.Answer.{reportOf}
 use Rattle.outcome.specs.declared.Answer.{Answer}
 use Rattle.outcome.specs.declared.Answer.the-variants.{Refused, Checked}
@@ -86,6 +88,11 @@ lineEnd s subject = space ++ subjectField s subject ++ newline
 -- 'a line a diagnostic'
 unfoldable pub line : List ℕ → Diagnostic → List ℕ
 line s d = names (d .severity) (d .code) ++ ruleAndDetail (d .rule) (d .detail) ++ (space ++ decimal (d .place)) ++ lineEnd s (d .subject)
+
+-- of what a reader found at an offset of a report
+unfoldable pub lineAt : List ℕ → List ℕ → ℕ → Found → List ℕ
+lineAt s report at (found.Field tag len) = line s (decodedAt report at)
+lineAt s report at found.End = []
 
 unfoldable pub lines : List ℕ → List Diagnostic → List ℕ
 lines s [] = []

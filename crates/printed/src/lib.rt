@@ -1,18 +1,24 @@
-// The numbers of every diagnostic have room in its bytes. No code.
+// The lines of the printed report, put into a lent buffer.
 use decimal::put_bytes;
 use decimal::put_labelled;
 use decimal::put_labelled_byte;
 use image_accept::Layout;
-use image_texts::text_of;
+use oce_diag::BLOCK_SUBJECT;
+use oce_diag::CONNECTOR_SUBJECT;
+use oce_diag::DIAGNOSTIC_SIZE;
 use oce_diag::DiagCode;
 use oce_diag::Diagnostic;
 use oce_diag::Severity;
 use oce_diag::Subject;
-use oce_diag::diagnostic_at;
+use oce_diag::TEXT_SUBJECT;
+use oce_diag::decode;
 use outcome::Answer;
-use oce_diag::BLOCK_SUBJECT;
-use oce_diag::CONNECTOR_SUBJECT;
-use subject::put_label;
+use reader::Found;
+use reader::Reader;
+use reader::next;
+use subject::LEAST_SCRATCH;
+use subject::accepted_subject;
+use subject::write_label;
 ghost use mathlib.Core.Path.{_≡_};
 ghost use Prim.Native.Nat.{_+_, _<_, _≤_};
 ghost use lib.ListN.{length};
@@ -21,13 +27,10 @@ ghost use Rattle.numbers.specs.Bytes.{wordRange};
 ghost use Rattle.oce_model.specs.Format.{textTag, longestText};
 ghost use Rattle.image_accept.specs.Layout.{Laid, Tabled};
 ghost use Rattle.decimal.specs.Appending.{Appended};
+ghost use Rattle.subject.specs.Subject.{subjectText};
 ghost use Rattle.outcome.specs.declared.Answer.the-variants.{Refused, Checked};
-ghost use Rattle.printed.specs.Printed.{severityName, codeName, names, ruleAndDetail, subjectField, lineEnd, line, firstLine, longestSeverity, longestCode, longestNames, longestRule, longestEnd, longestLine, longestFirstLine};
-ghost use Rattle.printed.specs.Pieces.{Pieced};
-
-
-
-// The lines of the printed report, put into a lent buffer.
+ghost use Rattle.printed.specs.Printed.{severityName, lineAt, codeName, names, ruleAndDetail, subjectField, lineEnd, line, firstLine, longestSeverity, longestCode, longestNames, longestRule, longestEnd, longestLine, longestFirstLine};
+ghost use Rattle.printed.specs.Pieces.{Pieced, Row, goesOn};
 
 // The next diagnostic to print, and how many bytes of lines stand in the buffer.
 pub struct Piece {
@@ -86,6 +89,25 @@ fn put_rule(out: &mut [u8], at: usize, rule: u8, detail: u8) -> usize
     put_labelled_byte(out, k, b".", detail)
 }
 
+// A subject's text, as `subject` hands it out: a part of the image, or of a scratch that is written first.
+fn put_text(
+    image: &[u8],
+    layout: Layout,
+    texts: &[usize],
+    out: &mut [u8],
+    at: usize,
+    kind: u8,
+    number: u32,
+) -> usize
+    requires { ⌜ Laid (now image) layout × Tabled textTag (now image) (now texts) × (at + longestText ≤ length (now out)) ⌝ }
+    ensures { λ r. ⌜ Appended (now (out .entry)) at (subjectText (now (image .entry)) kind number) (now (out .exit)) r × (r ≤ at + longestText) ⌝ }
+{
+    let mut scratch = [0u8; LEAST_SCRATCH];
+    write_label(kind, number, &mut scratch);
+    let text = accepted_subject(image, &scratch, layout, texts, kind, number);
+    put_bytes(out, at, text)
+}
+
 fn put_subject(
     image: &[u8],
     layout: Layout,
@@ -99,9 +121,9 @@ fn put_subject(
 {
     match subject {
         Subject::Nothing => put_bytes(out, at, b"-"),
-        Subject::Text(t) => put_bytes(out, at, text_of(image, layout, texts, t as usize)),
-        Subject::Connector(i) => put_label(out, at, CONNECTOR_SUBJECT, i),
-        Subject::Block(i) => put_label(out, at, BLOCK_SUBJECT, i),
+        Subject::Text(t) => put_text(image, layout, texts, out, at, TEXT_SUBJECT, t),
+        Subject::Connector(i) => put_text(image, layout, texts, out, at, CONNECTOR_SUBJECT, i),
+        Subject::Block(i) => put_text(image, layout, texts, out, at, BLOCK_SUBJECT, i),
     }
 }
 
@@ -174,27 +196,69 @@ pub fn first_line(answer: Answer, out: &mut [u8]) -> usize
     }
 }
 
-// The lines of a report's diagnostics, from the one with number `from` on and as long as the longest line
-// has room: at the start of out.
-pub fn put_lines(
-    image: &[u8],
+// The line of what a reader found at an offset of a report.
+fn put_found<'a>(
+    image: &'a [u8],
     layout: Layout,
-    texts: &[usize],
-    report: &[u8],
+    texts: &'a [usize],
+    report: &'a [u8],
+    at: usize,
+    found: Found,
+    out: &mut [u8],
+    k: usize,
+) -> usize
+    requires { ⌜ Laid (now image) layout × Tabled textTag (now image) (now texts) × (at ≤ length (now report)) × (k + longestLine ≤ length (now out)) ⌝ }
+    ensures { λ r. ⌜ Appended (now (out .entry)) k (lineAt (now (image .entry)) (now (report .entry)) at found) (now (out .exit)) r ⌝ }
+{
+    match found {
+        Found::End => k,
+        Found::Field { tag: _, len: _ } => put_line(
+            image,
+            layout,
+            texts,
+            out,
+            k,
+            decode(report, at),
+        ),
+    }
+}
+
+// Whether a diagnostic is left, and the longest line has room behind the first k bytes.
+fn goes_on(i: usize, count: usize, k: usize, room: usize) -> bool
+    requires { ⌜ k ≤ room ⌝ }
+    ensures { λ r. ⌜ r ≡ goesOn i count k room ⌝ }
+{
+    if count <= i {
+        return false;
+    }
+    LONGEST_LINE <= room - k
+}
+
+// The lines of a report's diagnostics, from the one with number `from` on and as long as the longest line
+// has room: at the start of out. A reader goes through the report, field by field.
+pub fn put_lines<'a>(
+    image: &'a [u8],
+    layout: Layout,
+    texts: &'a [usize],
+    report: &'a [u8],
     from: usize,
     count: usize,
     out: &mut [u8],
 ) -> Piece
-    requires { ⌜ Laid (now image) layout × Tabled textTag (now image) (now texts) × (from ≤ count) × (count < wordRange) ⌝ }
+    requires { ⌜ Laid (now image) layout × Tabled textTag (now image) (now texts) × (from ≤ count) × (count < wordRange) × Row (now report) count ⌝ }
     ensures { λ r. ⌜ Pieced (now (image .entry)) (now (report .entry)) from count (now (out .entry)) (now (out .exit)) r ⌝ }
 {
+    let room = out.len();
+    let mut r = Reader {
+        image: report,
+        at: DIAGNOSTIC_SIZE * from,
+    };
     let mut i = from;
     let mut k = 0;
-    while i < count {
-        if out.len() - k < LONGEST_LINE {
-            return Piece { next: i, length: k };
-        }
-        k = put_line(image, layout, texts, out, k, diagnostic_at(report, i));
+    while goes_on(i, count, k, room) {
+        let n = next(r);
+        k = put_found(image, layout, texts, r.image, r.at, n.found, out, k);
+        r = n.rest;
         i += 1;
     }
     Piece { next: i, length: k }

@@ -1,26 +1,31 @@
--- Laws of `stepAt`, with the code's own tests.
+-- Laws of `stepAt`, by what stands at the place.
 use Prim.Native.Nat.{ℕ, _+_, _<_, _≤_}
 use native.Mathlib.Omega.{arith}
-use mathlib.Core.Path.{_≡_}
+use mathlib.Core.Path.{_≡_, refl, sym, ap, _∙_}
+use mathlib.Core.Bool.{Bool, true, false, cond}
 use mathlib.Core.List.{List}
 use lib.ListN.{length}
-use borrow.Author.Tests.{le-leb, lt-leb}
+use borrow.Author.Tests.{lt-leb}
 use Rattle.numbers.specs.Bytes.{byte, le16}
-use Rattle.oce_model.specs.Format.{leadingBytes}
+use Rattle.oce_model.specs.Format.{leadingBytes, fieldLengthAt}
 use Rattle.oce_model.specs.Image.{fieldEnd}
+use Rattle.image_framing.specs.Walk.{leadingAt}
+use Rattle.image_framing.specs.declared.Leading.{Leading}
 use Rattle.reader.specs.declared.Found.the-variants.{Field, End}
 use Rattle.reader.specs.declared.Step.{Step}
-use Rattle.reader.specs.Reading.{stepAt}
+use Rattle.reader.specs.Reading.{whole, stepAt}
 
-module _ (s : List ℕ) (at : ℕ) where
-  pub step-field : {t n : ℕ} → t ≡ byte s at → n ≡ le16 s (at + 1) → at + leadingBytes + n ≤ length s → _≡_ {A = Step} (record { found = Field t n; at = at + leadingBytes + n }) (stepAt s at)
-  unfolding fieldEnd
-  step-field e f h = rw (e, f) (simp (le-leb _ _ (rw f at h)))
+module _ (s : List ℕ) (at : ℕ) {l : Leading} (e : l ≡ leadingAt s at) where
+  is : {b : Bool} → l .whole ≡ b → whole s at ≡ b
+  is h = sym (ap (λ (x : Leading). x .whole) e) ∙ h
 
-  pub step-cut : {n : ℕ} → n ≡ le16 s (at + 1) → length s < at + leadingBytes + n → _≡_ {A = Step} (record { found = End; at = at }) (stepAt s at)
+  pub step-field : l .whole ≡ true → _≡_ {A = Step} (record { found = Field (l .tag) (l .len); at = at + leadingBytes + l .len }) (stepAt s at)
   unfolding fieldEnd
-  step-cut f h = simp (lt-leb _ _ (rw f at h))
+  step-field h = rw (is h, e)
 
-  pub step-end : length s ≤ at → _≡_ {A = Step} (record { found = End; at = at }) (stepAt s at)
-  unfolding fieldEnd
-  step-end h = let past : length s < at + leadingBytes + le16 s (at + 1) = omega arith in simp (lt-leb _ _ past)
+  pub step-end : l .whole ≡ false → _≡_ {A = Step} (record { found = End; at = at }) (stepAt s at)
+  step-end h = rw (is h)
+
+pub step-past : (s : List ℕ) (at : ℕ) → length s ≤ at → _≡_ {A = Step} (record { found = End; at = at }) (stepAt s at)
+unfolding fieldEnd
+step-past s at h = let past : length s < fieldEnd s at = omega arith in simp (lt-leb _ _ past)

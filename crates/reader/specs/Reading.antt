@@ -1,22 +1,19 @@
 -- What stands at a place of an image, and the place behind it.
-use Prim.Native.Nat.{ℕ, _+_}
+use Prim.Native.Nat.{ℕ}
 use mathlib.Core.Bool.{Bool, cond}
 use mathlib.Core.List.{List}
-use lib.Dec.{leb}
-use lib.ListN.{length}
-use Rattle.numbers.specs.Bytes.{byte, le16}
-use Rattle.oce_model.specs.Format.{fieldLengthAt}
 use Rattle.oce_model.specs.Image.{fieldEnd}
+use Rattle.image_framing.specs.Walk.{leadingAt}
 use Rattle.reader.specs.declared.Found.{Found}
 use Rattle.reader.specs.declared.Found.the-variants.{Field, End}
 use Rattle.reader.specs.declared.Step.{Step}
 
 -- a whole field stands there
 abbrev pub whole : List ℕ → ℕ → Bool
-whole s at = leb (fieldEnd s at) (length s)
+whole s at = leadingAt s at .whole
 
 abbrev pub foundAt : List ℕ → ℕ → Found
-foundAt s at = cond (whole s at) (Field (byte s at) (le16 s (at + fieldLengthAt))) End
+foundAt s at = cond (whole s at) (Field (leadingAt s at .tag) (leadingAt s at .len)) End
 
 -- behind it; where no whole field stands, the same place
 abbrev pub afterAt : List ℕ → ℕ → ℕ

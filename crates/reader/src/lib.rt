@@ -1,7 +1,5 @@
 // A reading place that carries the image with it, and goes on field by field.
-use numbers::at16;
-use numbers::byte_at;
-use oce_model::FIELD_LENGTH_AT;
+use image_framing::leading_at;
 use oce_model::LEADING_BYTES;
 ghost use mathlib.Core.Path.{_≡_};
 ghost use Rattle.reader.specs.Reading.{foundAt, afterAt, stepAt};
@@ -34,13 +32,13 @@ fn step_at(image: &[u8], at: usize) -> Step
     ensures { λ r. ⌜ r ≡ stepAt (now (image .entry)) at ⌝ }
 {
     if at < image.len() {
-        let len = at16(image, at + FIELD_LENGTH_AT);
-        let end = at + LEADING_BYTES + len;
-        if end <= image.len() {
+        let l = leading_at(image, at);
+        if l.whole {
+            let end = at + LEADING_BYTES + l.len;
             return Step {
                 found: Found::Field {
-                    tag: byte_at(image, at) as u8,
-                    len: len as u16,
+                    tag: l.tag as u8,
+                    len: l.len as u16,
                 },
                 at: end,
             };

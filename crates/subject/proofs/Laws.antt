@@ -178,3 +178,8 @@ module _ (s xs : List ℕ) (kind n : ℕ) (h : leastScratch ≤ length xs) where
   -- a subject's text is read where it was written, in a scratch that has room
   pub read-written : part s (scratchAfter s kind n xs) kind n ≡ subjectText s kind n
   read-written = by-refusal (refusal s) refl
+
+  -- and so it is of an accepted image
+  pub accepted-written : {l : Layout} {ys : List ℕ} → Laid s l → ys ≡ startsWith (ifRoom xs (labelled kind n)) xs → partOf s ys kind n ≡ subjectText s kind n
+  unfolding partOf subjectText bs
+  accepted-written v e = rw (e, room xs bs h, v .accepted) (choose (eqb kind textSubjectKind))

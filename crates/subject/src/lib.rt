@@ -1,15 +1,15 @@
 // A subject's text, as a part of the image or of the caller's scratch.
+use base::part_of;
+use decimal::put_labelled;
 use image_accept::Acceptance;
 use image_accept::Layout;
 use image_accept::accept;
-use base::part_of;
-use decimal::put_labelled;
+use image_texts::text_of;
 use oce_diag::BLOCK_SUBJECT;
 use oce_diag::CONNECTOR_SUBJECT;
 use oce_diag::TEXT_SUBJECT;
 use oce_model::MOST_BLOCKS;
 use oce_model::MOST_TEXTS;
-use image_texts::text_of;
 ghost use mathlib.Core.Path.{_≡_};
 ghost use Prim.Native.Nat.{_+_, _≤_};
 ghost use lib.ListN.{length, take};
@@ -26,7 +26,7 @@ pub const LEAST_SCRATCH: usize = 20;
 
 // Puts `connector#` or `block#` and the id into out from index at on, and gives the index behind it.
 // Another kind of subject leaves out as it is.
-pub fn put_label(out: &mut [u8], at: usize, kind: u8, number: u32) -> usize
+fn put_label(out: &mut [u8], at: usize, kind: u8, number: u32) -> usize
     requires { ⌜ at + leastScratch ≤ length (now out) ⌝ }
     ensures { λ r. ⌜ Appended (now (out .entry)) at (labelled kind number) (now (out .exit)) r × (r ≤ at + leastScratch) ⌝ }
 {
@@ -47,8 +47,8 @@ fn label_length(kind: u8, number: u32) -> usize
     put_label(&mut room, 0, kind, number)
 }
 
-// The same at the start of the scratch, where it has room.
-fn write_label(kind: u8, number: u32, scratch: &mut [u8]) -> usize
+// Puts the same at the start of the scratch, where it has room, and gives the length written.
+pub fn write_label(kind: u8, number: u32, scratch: &mut [u8]) -> usize
     ensures { λ r. ⌜ r ≡ length (ifRoom (now (scratch .entry)) (labelled kind number)) ⌝ }
     ensures { λ _. ⌜ now (scratch .exit) ≡ startsWith (ifRoom (now (scratch .entry)) (labelled kind number)) (now (scratch .entry)) ⌝ }
 {
@@ -70,8 +70,26 @@ fn read_label(scratch: &[u8], kind: u8, number: u32) -> &[u8]
 
 // ---- the two calls
 
-// The part of an accepted image or of the scratch that is a subject's text; texts is the table that
-// `accept` filled.
+// Hands out a subject's text of an accepted image: a part of the image, or of the scratch that `write_label`
+// wrote; texts is the table that `accept` filled.
+pub fn accepted_subject<'a>(
+    image: &'a [u8],
+    scratch: &'a [u8],
+    layout: Layout,
+    texts: &[usize],
+    kind: u8,
+    number: u32,
+) -> &'a [u8]
+    requires { ⌜ Laid (now image) layout × Tabled textTag (now image) (now texts) ⌝ }
+    ensures { λ r. ⌜ now r ≡ partOf (now (image .entry)) (now (scratch .entry)) kind number ⌝ }
+{
+    if kind == TEXT_SUBJECT {
+        return text_of(image, layout, texts, number as usize);
+    }
+    read_label(scratch, kind, number)
+}
+
+// The same with the table as `accept` leaves it.
 fn subject_part<'a>(
     image: &'a [u8],
     scratch: &'a [u8],
@@ -83,10 +101,7 @@ fn subject_part<'a>(
     requires { ⌜ Laid (now image) layout × Tabled textTag (now image) (now texts) ⌝ }
     ensures { λ r. ⌜ now r ≡ partOf (now (image .entry)) (now (scratch .entry)) kind number ⌝ }
 {
-    if kind == TEXT_SUBJECT {
-        return text_of(image, layout, texts, number as usize);
-    }
-    read_label(scratch, kind, number)
+    accepted_subject(image, scratch, layout, texts, kind, number)
 }
 
 // Writes a subject's text at the start of the scratch, if it isn't a part of the image, and gives the

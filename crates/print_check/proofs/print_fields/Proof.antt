@@ -4,7 +4,7 @@ use mathlib.Core.Path.{_≡_}
 use lib.ListN.{length}
 use borrow.Author.Needs.{needs}
 use Rattle.oce_model.specs.Format.{longestImage}
-use Rattle.print_check.proofs.Laws.{pieceSize, fields-within}
+use Rattle.print_check.proofs.Laws.{pieceSize, fields-within, listed-not, listed-all}
 use Rattle.print_check.proofs.print_fields.Statement.{statement}
 use Rattle.print_check.proofs.print_fields.Tie as tie
 
@@ -20,14 +20,14 @@ print-fields-spec =
     (tie.spec
     Inv-loop
     μ-loop
-    (λ c. search needs)
-    (λ c. search needs)
-    (λ c. search needs)
-    (λ c κs. search needs)
+    (λ c. search (listed-not, needs))
     (λ c. search needs)
     (λ c. search needs)
     (λ c κs. search needs)
-    (λ c κs. search needs)
     (λ c. search needs)
+    (λ c. search (listed-all, needs))
+    (λ c κs. search needs)
+    (λ c κs. search needs)
+    (λ c. search (listed-not, needs))
     (λ c. search (fields-within, needs))
     (λ c. (search (fields-within, needs), search needs, search needs)))

@@ -12,6 +12,6 @@ print-report-spec =
     (λ c κs. search needs)
     (λ c. search needs)
     (λ c. search needs)
-    (λ c κs. (search (accepted-laid, needs), search (accepted-tabled, needs), search needs))
+    (λ c κs. (search (accepted-laid, needs), search (accepted-tabled, needs), search needs, search needs))
     (λ c. search needs)
     (λ c. search needs))

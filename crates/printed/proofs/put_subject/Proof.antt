@@ -1,6 +1,6 @@
 -- `printed::put_subject` meets its contract: by the subject.
 use borrow.Author.Needs.{needs}
-use Rattle.printed.proofs.Laws.{room-text, near-text, subject-none, subject-text, subject-connector, subject-block}
+use Rattle.printed.proofs.Laws.{subject-none, subject-text, subject-connector, subject-block}
 use Rattle.printed.proofs.put_subject.Statement.{statement}
 use Rattle.printed.proofs.put_subject.Tie as tie
 
@@ -12,9 +12,7 @@ put-subject-spec =
     (λ c. search needs)
     (λ c κs. search needs)
     (λ c. search needs)
-    (λ c. search needs)
     (λ c κs. search needs)
-    (λ c κs. search (room-text, needs))
     (λ c. search needs)
     (λ c κs. search needs)
     (λ c. search needs)
@@ -22,7 +20,7 @@ put-subject-spec =
     (λ c. search needs)
     (λ c. search (subject-none, needs))
     (λ c. search needs)
-    (λ c. search (subject-text, near-text, needs))
+    (λ c. search (subject-text, needs))
     (λ c. search needs)
     (λ c. search (subject-connector, needs))
     (λ c. search needs)

@@ -1,0 +1,2 @@
+-- What the printing program leaves in the buffers that it is lent, and what it answers.
+pub mod Outcome
