@@ -50,6 +50,36 @@ pub fn files() -> Vec<File> {
     files
 }
 
+/// The name of the file whose answers are wrong on purpose.
+pub const WRONG: &str = "wrong-00.ans";
+
+/// Records with one wrong byte each, in the answer: a refusal's number, the number of errors, a
+/// diagnostic's severity, a filled attribute. Who replays them must say that each differs.
+pub fn wrong() -> File {
+    let models = models();
+    let (filled, faulty) = (&models[2].image, &models[3].image);
+    let records = [
+        wrong_at(&[], 0),
+        wrong_at(faulty, 8),
+        wrong_at(faulty, ANSWER),
+        wrong_at(filled, ANSWER + 8),
+    ];
+    File {
+        name: WRONG.to_owned(),
+        bytes: file_bytes(&records),
+    }
+}
+
+/// The record of an image with a wrong byte, so many bytes behind the image.
+fn wrong_at(image: &[u8], behind: usize) -> Vec<u8> {
+    let mut record = record(image);
+    record[8 + image.len() + behind] ^= 3;
+    record
+}
+
+/// Bytes of an answer before its diagnostics.
+const ANSWER: usize = 20;
+
 /// Records of generated images: those that can be compared, or those whose head has other
 /// Integer defaults that matter.
 fn generated(comparable: bool) -> impl Iterator<Item = Vec<u8>> {

@@ -6,7 +6,7 @@ use std::path::{Path, PathBuf};
 use oracle::answer::answer;
 use oracle::coverage::Coverage;
 use oracle::models::models;
-use oracle::stored::{MAX_FILE, MAX_RECORD, files, images, record};
+use oracle::stored::{File, MAX_FILE, MAX_RECORD, files, images, record, wrong};
 
 const MOST_BYTES: usize = 2_000_000;
 const LEAST_GENERATED: usize = 500;
@@ -16,10 +16,17 @@ fn replay() -> PathBuf {
     Path::new(env!("CARGO_MANIFEST_DIR")).join("../crates/replay")
 }
 
+/// The real ones, and the one that is wrong on purpose.
+fn all_files() -> Vec<File> {
+    let mut all = files();
+    all.push(wrong());
+    all
+}
+
 #[test]
 fn stored_answers_are_up_to_date() {
     let folder = replay().join("data");
-    let files = files();
+    let files = all_files();
     for file in &files {
         let stored = fs::read(folder.join(&file.name)).expect("a stored file");
         assert!(stored == file.bytes, "{} differs", file.name);
@@ -32,7 +39,7 @@ fn stored_answers_are_up_to_date() {
 #[test]
 fn every_file_is_an_argument() {
     let args = fs::read_to_string(replay().join("args")).expect("the arguments");
-    let mut names: Vec<String> = files().into_iter().map(|file| file.name).collect();
+    let mut names: Vec<String> = all_files().into_iter().map(|file| file.name).collect();
     names.sort();
     assert_eq!(args.lines().collect::<Vec<_>>(), names);
 }
@@ -61,6 +68,25 @@ fn sizes_and_coverage() {
     assert!(bytes <= MOST_BYTES);
     assert!(generated >= LEAST_GENERATED);
     assert_eq!(coverage.missing(), Vec::<String>::new());
+}
+
+/// Each wrong record has the length of the oracle's own, and one byte of its answer is another.
+#[test]
+fn wrong_answers_have_one_wrong_byte() {
+    let file = wrong();
+    let images = images(&file.bytes).expect("a file of stored answers");
+    assert_eq!(images.len(), 4);
+    let mut at = 12;
+    for image in images {
+        let right = record(image);
+        let stored = &file.bytes[at..at + right.len()];
+        let unlike = |i: &usize| stored[*i] != right[*i];
+        let wrong: Vec<usize> = (0..right.len()).filter(unlike).collect();
+        assert_eq!(wrong.len(), 1);
+        assert!(wrong[0] >= 8 + image.len());
+        at += right.len();
+    }
+    assert_eq!(at, file.bytes.len());
 }
 
 /// Model b by hand, byte for byte as docs/STORED_ANSWERS.md describes a record.

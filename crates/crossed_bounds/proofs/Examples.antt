@@ -5,7 +5,7 @@ use mathlib.Core.List.{List, [], _∷_, map}
 use lib.Ieee.{ofBits, lt}
 use Rattle.oce_model.specs.Model.{modelOf}
 use Rattle.oce_model.specs.Examples.{models, written}
-use Rattle.oce_diag.specs.Diagnostics.{error}
+use Rattle.oce_diag.specs.Diagnostics.{connectorId, error}
 use Rattle.oce_diag.specs.declared.Diagnostic.{Diagnostic}
 use Rattle.oce_diag.specs.declared.Subject.the-variants.{Text, Connector}
 use Rattle.oce_diag.specs.declared.DiagCode.the-variants.{CrossedBounds}
@@ -18,7 +18,7 @@ reported s = rule5 (modelOf s)
 -- j: an Integer min above the default max; l: a boundary input above its In
 pub crossed-bounds : map reported models
     ≡ [] ∷ [] ∷ [] ∷ [] ∷ [] ∷ [] ∷ [] ∷ [] ∷ []
-    ∷ (error CrossedBounds 5 1 (Connector 0) 0 ∷ [])
+    ∷ (error CrossedBounds 5 1 (Connector (connectorId 0)) 0 ∷ [])
     ∷ []
     ∷ (error CrossedBounds 5 4 (Text 0) 2 ∷ [])
     ∷ [] ∷ [] ∷ [] ∷ [] ∷ [] ∷ [] ∷ []

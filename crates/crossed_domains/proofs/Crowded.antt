@@ -14,7 +14,8 @@ use Rattle.oce_model.specs.Texts.{order}
 use Rattle.oce_model.specs.Model.{Model}
 use Rattle.oce_model.specs.declared.Ordering.{Ordering}
 use Rattle.oce_model.specs.declared.Ordering.the-variants.{Less, Equal, Greater}
-use Rattle.crossed_sort.specs.Sort.{sorted}
+use Rattle.sorting.specs.Sort.{sorted}
+use Rattle.crossed_sort.specs.Sort.{first}
 use Rattle.image_texts.proofs.Order.{order-equal}
 use Rattle.crossed_bounds.specs.Groups.{Group, members, alone, joined, byOrder, enter, enterAll}
 use Rattle.crossed_bounds.specs.CrossedBounds.{memberExternal, memberKey, groupFaults, groupsFaults}
@@ -226,6 +227,6 @@ module _ (m : Model) where
       go false e h = rw (told-faults (known m n (bucketOf (memberKey m (g .first)))) g (a .0) e) h
 
   -- crowded members alone give the same report as all that take part
-  pub crowded-faults : (n : ℕ) → groupsFaults m (runs (memberKey m) (sorted (memberKey m) (crowdedMembers m n))) ≡ groupsFaults m (runs (memberKey m) (sorted (memberKey m) (joining m n)))
+  pub crowded-faults : (n : ℕ) → groupsFaults m (runs (memberKey m) (sorted (first (memberKey m)) (crowdedMembers m n))) ≡ groupsFaults m (runs (memberKey m) (sorted (first (memberKey m)) (joining m n)))
   crowded-faults n =
       rw (runs-sorted (memberKey m) (crowdedMembers m n), runs-sorted (memberKey m) (joining m n), crowded-groups n n) (passing-faults n (entered n) (told n))

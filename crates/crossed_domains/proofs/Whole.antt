@@ -8,7 +8,8 @@ use borrow.Author.Tests.{lt-ltb, le-ltb, ltb-true, ltb-false}
 use Rattle.base.specs.Lists.{each, tab, only, below}
 use Rattle.base.proofs.Lists.{each-add, each-same, below-each}
 use Rattle.oce_model.specs.Model.{Model, connector, connectorCount, boundaryInputCount, isConnector}
-use Rattle.crossed_sort.specs.Sort.{sorted}
+use Rattle.sorting.specs.Sort.{sorted}
+use Rattle.crossed_sort.specs.Sort.{first}
 use Rattle.crossed_bounds.specs.Groups.{Group, enter, enterAll}
 use Rattle.crossed_bounds.specs.CrossedBounds.{memberExternal, memberKey, joins, groups, groupsFaults}
 use Rattle.crossed_members.specs.Members.{memberJoins, joining}
@@ -48,13 +49,13 @@ module _ (m : Model) where
 
   -- the runs of the sorted members
   pub sorted-faults : {n : ℕ} → n ≡ connectorCount m + boundaryInputCount m
-      → groupsFaults m (runs (memberKey m) (sorted (memberKey m) (joining m n))) ≡ groupsFaults m (groups m)
+      → groupsFaults m (runs (memberKey m) (sorted (first (memberKey m)) (joining m n))) ≡ groupsFaults m (groups m)
   unfolding groups
   sorted-faults {n} e =
       let xs = each (connectorCount m) (λ i. only (joins (connector m i)) i) in
       let ys = tab (boundaryInputCount m) (λ i. connectorCount m + i) in
       let t : joining m n ≡ xs ++ ys = ap (joining m) e ∙ joining-split in
-      let r : runs (memberKey m) (sorted (memberKey m) (joining m n)) ≡ enterAll (memberKey m) (enterAll (memberKey m) [] xs) ys =
+      let r : runs (memberKey m) (sorted (first (memberKey m)) (joining m n)) ≡ enterAll (memberKey m) (enterAll (memberKey m) [] xs) ys =
       runs-sorted (memberKey m) (joining m n) ∙ rw t (enterAll-append (memberKey m) [] xs ys) in
       ap (groupsFaults m) r
       ∙ sym (extended-faults (memberKey m) m (enterAll (memberKey m) [] xs) ys (inputs-idle (boundaryInputCount m)) (enterAll-ascending (memberKey m) [] xs tt))

@@ -31,7 +31,6 @@ ghost use Rattle.oce_model.specs.Model.{modelOf};
 ghost use Rattle.oce_diag.specs.Putting.{Put, Countable, Adds};
 ghost use Rattle.image_accept.specs.Layout.{Laid, Tabled};
 ghost use Rattle.structural_externals.specs.Columns.{Listed};
-ghost use Rattle.crossed_sort.specs.Sort.{sorted};
 ghost use Rattle.crossed_bounds.specs.CrossedBounds.{memberIri, memberKey, groups, groupsFaults};
 ghost use Rattle.crossed_members.specs.Members.{memberCount, isMember};
 ghost use Rattle.crossed_buckets.specs.Buckets.{crowdedMembers};

@@ -39,11 +39,11 @@ unfolding crossedFaults
 crossed-put m detail subject i a p f g = rw (← g, ← f) p
 
 module _ (m : Model) (i : ℕ) {a : Attrs} {b b′ : List ℕ} {c c′ : Counted} where
-  pub connector-put : {u : Subject} {k : Connector} → Put b c (crossedFaults m 1 u i a) b′ c′ → u ≡ connectorSubject (k .iri) (k .id .0) → k ≡ connectorRead (connector m i) → a ≡ connector m i .attrs
+  pub connector-put : {u : Subject} {k : Connector} → Put b c (crossedFaults m 1 u i a) b′ c′ → u ≡ connectorSubject (k .iri) (k .id) → k ≡ connectorRead (connector m i) → a ≡ connector m i .attrs
       → Put b c (connectorCrossed m i) b′ c′
   unfolding connectorCrossed subjectOf connectorRead
   connector-put {u} p e f g =
-      let z : u ≡ subjectOf (connector m i) = e ∙ ap (λ k. connectorSubject (k .iri) (k .id .0)) f in
+      let z : u ≡ subjectOf (connector m i) = e ∙ ap (λ k. connectorSubject (k .iri) (k .id)) f in
       rw (← z, ← g) p
 
   pub input-put : {t : ℕ} → Put b c (crossedFaults m 2 (Text t) i a) b′ c′ → t ≡ boundaryInput m i .iri → a ≡ boundaryInput m i .attrs → Put b c (inputCrossed m i) b′ c′

@@ -58,8 +58,7 @@ pub fn connector_crossed(
     ensures { λ r. ⌜ Put (now (report .entry)) counted (connectorCrossed (modelOf (now (image .entry))) (i .0)) (now (report .exit)) r × Adds 1 counted r ⌝ }
 {
     let c = connector(image, layout, i);
-    let id = c.id;
-    let subject = subject_of(c.iri, id.0);
+    let subject = subject_of(c.iri, c.id);
     let at = connector_attrs(image, layout, i);
     let bad = is_crossed(range_of(image, layout, at));
     put_crossed(report, counted, bad, 1, subject, i.0)

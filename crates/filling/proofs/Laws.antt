@@ -118,7 +118,7 @@ module _ {s : List ℕ} {l : Layout} (h : Laid s l) where
 -- ---- the loop
 
 -- bytes put into a buffer that starts with others
-patch-start : (t b : List ℕ) (at : ℕ) (bs : List ℕ) → at + length bs ≤ length t → patch (startsWith t b) at bs ≡ startsWith (patch t at bs) b
+pub patch-start : (t b : List ℕ) (at : ℕ) (bs : List ℕ) → at + length bs ≤ length t → patch (startsWith t b) at bs ≡ startsWith (patch t at bs) b
 unfolding startsWith patch
 patch-start t b at bs fits =
     rw (patch-length t at bs fits, take-append-le at t (drop (length t) b) (omega arith), drop-append-le (at + length bs) t (drop (length t) b) fits)

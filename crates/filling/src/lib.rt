@@ -89,7 +89,7 @@ fn attrs_at(section: Section, size: usize, i: usize, lead: usize) -> usize
 }
 
 // Where the attributes of slot j stand.
-fn slot_offset(image: &[u8], layout: Layout, j: usize) -> usize
+pub fn slot_offset(image: &[u8], layout: Layout, j: usize) -> usize
     requires { ⌜ Laid (now image) layout × (j < slotCount (modelOf (now image))) ⌝ }
     ensures { λ r. ⌜ r ≡ getD (slotOffsets (now (image .entry))) j 0 ⌝ }
 {

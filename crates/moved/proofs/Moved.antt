@@ -24,14 +24,14 @@ use Rattle.moved.proofs.Demand.{demand3}
 
 -- ---- an answer that is no refusal
 
-record Checks (s : List ℕ) (e w : ℕ) : Type 0 where
-  accepted : refusal s ≡ none
-  counts : (e ≡ errors (reportOf s)) × (w ≡ warnings (reportOf s))
+pub record Checks (s : List ℕ) (e w : ℕ) : Type 0 where
+  pub accepted : refusal s ≡ none
+  pub counts : (e ≡ errors (reportOf s)) × (w ≡ warnings (reportOf s))
 
 refused-not : {X : Type 0} (n at e w : ℕ) → Refused n at ≡ Checked e w → X
 refused-not n at e w h = absurd (let z : _≡_ {A = ℕ} 0 1 = cc in omega arith)
 
-checks : (s : List ℕ) (filled room e w : ℕ) → answer s filled room ≡ Checked e w → Checks s e w
+pub checks : (s : List ℕ) (filled room e w : ℕ) → answer s filled room ≡ Checked e w → Checks s e w
 unfolding answer
 checks s filled room e w h = go (refusal s) refl h
   where

@@ -5,7 +5,7 @@ use mathlib.Core.Bool.{cond}
 use mathlib.Core.List.{List, List·Memᴰ}
 use lib.Dec.{eqb}
 use Rattle.numbers.specs.Bytes.{wordRange, byte, le32}
-use Rattle.oce_diag.specs.Diagnostics.{diagnostic}
+use Rattle.oce_diag.specs.Diagnostics.{connectorId, blockId, diagnostic}
 use Rattle.oce_diag.specs.Encoding.{diagnosticSize, severityNumber, codeNumber, textSubjectKind, connectorSubjectKind, blockSubjectKind, subjectNumber, severityPlace, codePlace, rulePlace, detailPlace, kindPlace, numberPlace, placePlace}
 use Rattle.oce_diag.specs.declared.Severity.{Severity}
 use Rattle.oce_diag.specs.declared.Severity.the-variants.{Error, Warning}
@@ -32,8 +32,8 @@ codeOf n =
 unfoldable pub subjectFrom : ℕ → ℕ → Subject
 subjectFrom kind number =
     cond (eqb kind textSubjectKind) (Text number)
-    (cond (eqb kind connectorSubjectKind) (Connector number)
-    (cond (eqb kind blockSubjectKind) (Block number) Nothing))
+    (cond (eqb kind connectorSubjectKind) (Connector (connectorId number))
+    (cond (eqb kind blockSubjectKind) (Block (blockId number)) Nothing))
 
 -- the diagnostic whose bytes begin at an offset, and diagnostic i of a report
 unfoldable pub decodedAt : List ℕ → ℕ → Diagnostic

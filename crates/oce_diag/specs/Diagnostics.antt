@@ -7,6 +7,8 @@ use lib.ListN.{length}
 use Rattle.base.specs.Lists.{any, keep}
 use Rattle.oce_model.specs.Format.{noText}
 use Rattle.oce_model.specs.Model.{Block, Connector}
+use Rattle.oce_model.specs.declared.BlockId.{BlockId}
+use Rattle.oce_model.specs.declared.ConnectorId.{ConnectorId}
 use Rattle.oce_diag.specs.declared.Severity.{Severity}
 use Rattle.oce_diag.specs.declared.Severity.the-variants.{Error, Warning}
 use Rattle.oce_diag.specs.declared.DiagCode.{DiagCode}
@@ -14,19 +16,26 @@ use Rattle.oce_diag.specs.declared.Subject.{Subject}
 use Rattle.oce_diag.specs.declared.Subject.the-variants.{Text, Connector as OfConnector, Block as OfBlock}
 use Rattle.oce_diag.specs.declared.Diagnostic.{Diagnostic}
 
+-- `ConnectorId` and `BlockId`: a connector's and a block's id, by its number
+abbrev pub connectorId : ℕ → ConnectorId
+connectorId n = record { 0 = n }
+
+abbrev pub blockId : ℕ → BlockId
+blockId n = record { 0 = n }
+
 -- `subject_of`: a connector's iri when known, else `connector#` and its id
-unfoldable pub connectorSubject : ℕ → ℕ → Subject
+unfoldable pub connectorSubject : ℕ → ConnectorId → Subject
 connectorSubject iri id = cond (eqb iri noText) (OfConnector id) (Text iri)
 
 unfoldable pub subjectOf : Connector → Subject
-subjectOf c = connectorSubject (c .iri) (c .id)
+subjectOf c = connectorSubject (c .iri) (connectorId (c .id))
 
 -- `block_subject_of`: a block's instance iri when known, else `block#` and its id
-unfoldable pub blockSubject : ℕ → ℕ → Subject
+unfoldable pub blockSubject : ℕ → BlockId → Subject
 blockSubject instance id = cond (eqb instance noText) (OfBlock id) (Text instance)
 
 unfoldable pub blockSubjectOf : Block → Subject
-blockSubjectOf b = blockSubject (b .instanceIri) (b .id)
+blockSubjectOf b = blockSubject (b .instanceIri) (blockId (b .id))
 
 unfoldable pub diagnostic : Severity → DiagCode → ℕ → ℕ → Subject → ℕ → Diagnostic
 diagnostic severity code rule detail subject place = record {

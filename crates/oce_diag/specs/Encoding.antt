@@ -59,8 +59,8 @@ subjectKind (Block i) = blockSubjectKind
 abbrev pub subjectNumber : Subject → ℕ
 subjectNumber Nothing = 0
 subjectNumber (Text t) = t
-subjectNumber (Connector i) = i
-subjectNumber (Block i) = i
+subjectNumber (Connector i) = i .0
+subjectNumber (Block i) = i .0
 
 -- where its parts stand, from its first byte
 abbrev pub severityPlace : ℕ

@@ -2,6 +2,8 @@
 use base::copy_at;
 use numbers::at32;
 use numbers::byte_at;
+use oce_model::BlockId;
+use oce_model::ConnectorId;
 use oce_model::LEADING_BYTES;
 use oce_model::NO_TEXT;
 ghost use mathlib.Core.Path.{_≡_};
@@ -37,8 +39,8 @@ pub enum DiagCode {
 pub enum Subject {
     Nothing,
     Text(u32),
-    Connector(u32),
-    Block(u32),
+    Connector(ConnectorId),
+    Block(BlockId),
 }
 
 // One diagnostic of a report. Rule, detail and place are document 01's; the Rust has a message instead.
@@ -91,7 +93,7 @@ pub const BLOCK_SUBJECT: u8 = 3;
 // ---- making a diagnostic
 
 // The Rust's `subject_of`: a connector's iri text, or its id where it has none.
-pub fn subject_of(iri: usize, id: u32) -> Subject
+pub fn subject_of(iri: usize, id: ConnectorId) -> Subject
     requires { ⌜ iri < shortRange ⌝ }
     ensures { λ r. ⌜ r ≡ connectorSubject iri id ⌝ }
 {
@@ -102,7 +104,7 @@ pub fn subject_of(iri: usize, id: u32) -> Subject
 }
 
 // The Rust's `block_subject_of`: a block's instance text, or its id where it has none.
-pub fn block_subject_of(instance: usize, id: u32) -> Subject
+pub fn block_subject_of(instance: usize, id: BlockId) -> Subject
     requires { ⌜ instance < shortRange ⌝ }
     ensures { λ r. ⌜ r ≡ blockSubject instance id ⌝ }
 {
@@ -142,7 +144,7 @@ pub fn warning(code: DiagCode, rule: u8, detail: u8, subject: Subject, place: u3
 
 // ---- its numbers
 
-fn severity_number(s: Severity) -> u8
+pub fn severity_number(s: Severity) -> u8
     ensures { λ r. ⌜ r ≡ severityNumber s ⌝ }
 {
     match s {
@@ -151,7 +153,7 @@ fn severity_number(s: Severity) -> u8
     }
 }
 
-fn code_number(c: DiagCode) -> u8
+pub fn code_number(c: DiagCode) -> u8
     ensures { λ r. ⌜ r ≡ codeNumber c ⌝ }
 {
     match c {
@@ -166,7 +168,7 @@ fn code_number(c: DiagCode) -> u8
     }
 }
 
-fn subject_kind(s: Subject) -> u8
+pub fn subject_kind(s: Subject) -> u8
     ensures { λ r. ⌜ r ≡ subjectKind s ⌝ }
 {
     match s {
@@ -177,14 +179,14 @@ fn subject_kind(s: Subject) -> u8
     }
 }
 
-fn subject_number(s: Subject) -> u32
+pub fn subject_number(s: Subject) -> u32
     ensures { λ r. ⌜ r ≡ subjectNumber s ⌝ }
 {
     match s {
         Subject::Nothing => 0,
         Subject::Text(t) => t,
-        Subject::Connector(i) => i,
-        Subject::Block(i) => i,
+        Subject::Connector(i) => i.0,
+        Subject::Block(i) => i.0,
     }
 }
 
@@ -307,10 +309,10 @@ fn subject_from(kind: u8, number: u32) -> Subject
         return Subject::Text(number);
     }
     if kind == CONNECTOR_SUBJECT {
-        return Subject::Connector(number);
+        return Subject::Connector(ConnectorId(number));
     }
     if kind == BLOCK_SUBJECT {
-        return Subject::Block(number);
+        return Subject::Block(BlockId(number));
     }
     Subject::Nothing
 }

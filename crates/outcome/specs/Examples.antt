@@ -6,7 +6,7 @@ use lib.ListN.{length}
 use Rattle.oce_model.specs.Format.{unitBit, displayUnitBit, minBit, maxBit}
 use Rattle.oce_model.specs.Build.{head, _is_, real, integer, block, output, input, connection, boundaryOutput}
 use Rattle.oce_model.specs.Examples.{units, kelvin, celsius, pair, modelA, modelB, modelC, modelD, modelE, modelF, modelG, modelH, modelI, modelJ, modelK, modelL, modelM, modelN, modelO, modelP, modelQ, image78, written}
-use Rattle.oce_diag.specs.Diagnostics.{error, warning}
+use Rattle.oce_diag.specs.Diagnostics.{connectorId, error, warning}
 use Rattle.oce_diag.specs.declared.Diagnostic.{Diagnostic}
 use Rattle.oce_diag.specs.declared.Subject.the-variants.{Nothing, Text, Connector}
 use Rattle.oce_diag.specs.declared.DiagCode.the-variants.{MalformedDocument, DirectionMismatch, SingleAssignment, UnitQuantityMismatch, BoundMismatch, CrossedBounds, DisplayUnitDivergence}
@@ -40,34 +40,34 @@ cases =
     -- b: 'no diagnostic, In has K'
     ∷ fills modelB [] (pair units (real (unitBit is kelvin ∷ [])) (real (unitBit is kelvin ∷ [])))
     -- c: '6.1, nothing filled'
-    ∷ faulty modelC (error UnitQuantityMismatch 6 1 (Connector 0) 0 ∷ [])
+    ∷ faulty modelC (error UnitQuantityMismatch 6 1 (Connector (connectorId 0)) 0 ∷ [])
     -- d: '6.3'
-    ∷ faulty modelD (error BoundMismatch 6 3 (Connector 0) 0 ∷ [])
+    ∷ faulty modelD (error BoundMismatch 6 3 (Connector (connectorId 0)) 0 ∷ [])
     -- e: 'no diagnostic'
     ∷ fine modelE
     -- f: '6.8, nothing filled'
-    ∷ faulty modelF (error CrossedBounds 6 8 (Connector 0) 0 ∷ [])
+    ∷ faulty modelF (error CrossedBounds 6 8 (Connector (connectorId 0)) 0 ∷ [])
     -- g: 'only 3.2, place 2'
-    ∷ faulty modelG (error SingleAssignment 3 2 (Connector 2) 2 ∷ [])
+    ∷ faulty modelG (error SingleAssignment 3 2 (Connector (connectorId 2)) 2 ∷ [])
     -- h: '3.2, 4.1'
-    ∷ faulty modelH (error SingleAssignment 3 2 (Connector 1) 2 ∷ error MalformedDocument 4 1 Nothing 1 ∷ [])
+    ∷ faulty modelH (error SingleAssignment 3 2 (Connector (connectorId 1)) 2 ∷ error MalformedDocument 4 1 Nothing 1 ∷ [])
     -- i: 'no diagnostic'
     ∷ fine modelI
     -- j: '5.1'
-    ∷ faulty modelJ (error CrossedBounds 5 1 (Connector 0) 0 ∷ [])
+    ∷ faulty modelJ (error CrossedBounds 5 1 (Connector (connectorId 0)) 0 ∷ [])
     -- k: 'no diagnostic'
     ∷ fine modelK
     -- l: '5.4, place 2'
     ∷ faulty modelL (error CrossedBounds 5 4 (Text 0) 2 ∷ [])
     -- m: 'warning 6.7, In has K'
-    ∷ fills modelM (warning DisplayUnitDivergence 6 7 (Connector 0) 0 ∷ [])
+    ∷ fills modelM (warning DisplayUnitDivergence 6 7 (Connector (connectorId 0)) 0 ∷ [])
     (pair units (real (unitBit is kelvin ∷ displayUnitBit is kelvin ∷ [])) (real (unitBit is kelvin ∷ displayUnitBit is celsius ∷ [])))
     -- n: 6.8 is asked only after all roots, and not beside an error
-    ∷ faulty modelN (error UnitQuantityMismatch 6 1 (Connector 2) 2 ∷ [])
+    ∷ faulty modelN (error UnitQuantityMismatch 6 1 (Connector (connectorId 2)) 2 ∷ [])
     -- o: another rule's error undoes the filling
-    ∷ faulty modelO (error SingleAssignment 3 1 (Connector 2) 2 ∷ [])
+    ∷ faulty modelO (error SingleAssignment 3 1 (Connector (connectorId 2)) 2 ∷ [])
     -- p: what a root fills is seen by later roots, beside errors too
-    ∷ faulty modelP (error DirectionMismatch 4 2 (Connector 1) 1 ∷ error UnitQuantityMismatch 6 1 (Connector 1) 1 ∷ [])
+    ∷ faulty modelP (error DirectionMismatch 4 2 (Connector (connectorId 1)) 1 ∷ error UnitQuantityMismatch 6 1 (Connector (connectorId 1)) 1 ∷ [])
     -- q: every root fills its cluster, boundary outputs too, each kind its own attributes
     ∷ fills modelQ []
     (head ++ units ++ block 0 (1 ∷ 3 ∷ []) (0 ∷ 2 ∷ [])

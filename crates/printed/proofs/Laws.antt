@@ -13,6 +13,8 @@ use Rattle.base.specs.Buffers.{startsWith}
 use Rattle.base.proofs.Lists.{each-next}
 use Rattle.oce_model.specs.Format.{longestText}
 use Rattle.oce_model.specs.Model.{modelOf, text}
+use Rattle.oce_model.specs.declared.BlockId.{BlockId}
+use Rattle.oce_model.specs.declared.ConnectorId.{ConnectorId}
 use Rattle.oce_diag.specs.declared.Severity.{Severity}
 use Rattle.oce_diag.specs.declared.DiagCode.{DiagCode}
 use Rattle.oce_diag.specs.declared.Subject.{Subject}
@@ -79,11 +81,11 @@ module _ (s : List ℕ) (x : Subject) {b : List ℕ} {at : ℕ} {b′ : List ℕ
   unfolding subjectField
   subject-text e v = rw e v
 
-  pub subject-connector : {i : ℕ} → x ≡ Connector i → Appended b at (subjectText s connectorSubjectKind i) b′ r → Appended b at (subjectField s x) b′ r
+  pub subject-connector : {i : ConnectorId} → x ≡ Connector i → Appended b at (subjectText s connectorSubjectKind (i .0)) b′ r → Appended b at (subjectField s x) b′ r
   unfolding subjectField
   subject-connector e v = rw e v
 
-  pub subject-block : {i : ℕ} → x ≡ Block i → Appended b at (subjectText s blockSubjectKind i) b′ r → Appended b at (subjectField s x) b′ r
+  pub subject-block : {i : BlockId} → x ≡ Block i → Appended b at (subjectText s blockSubjectKind (i .0)) b′ r → Appended b at (subjectField s x) b′ r
   unfolding subjectField
   subject-block e v = rw e v
 

@@ -14,7 +14,7 @@ use Rattle.oce_model.specs.Format.{noText}
 use Rattle.oce_model.specs.Attributes.{Attrs}
 use Rattle.oce_model.specs.Model.{Model, modelOf, block, connector, connection, boundaryInput, boundaryOutput, blockCount, connectorCount, connectionCount, boundaryInputCount, boundaryOutputCount, isBlock, isConnector, isIn}
 use Rattle.oce_model.specs.Refusals.{refusal}
-use Rattle.oce_diag.specs.Diagnostics.{connectorSubject, subjectOf, blockSubject, blockSubjectOf, hasError}
+use Rattle.oce_diag.specs.Diagnostics.{connectorId, blockId, connectorSubject, subjectOf, blockSubject, blockSubjectOf, hasError}
 use Rattle.oce_diag.specs.Encoding.{subjectNumber}
 use Rattle.oce_diag.specs.declared.Severity.the-variants.{Error, Warning}
 use Rattle.oce_diag.specs.declared.DiagCode.the-variants.{MalformedDocument, DirectionMismatch, SingleAssignment, TypeMismatch, CrossedBounds, DisplayUnitDivergence}
@@ -42,7 +42,7 @@ module _ (m : Model) (b : Bounded m) where
   unfolding subjectOf connectorSubject
   of-connector i = arm (eqb (connector m i .iri) noText)
     where
-      arm : (t : Bool) → subjectNumber (cond t (Connector (connector m i .id)) (Text (connector m i .iri))) < wordRange
+      arm : (t : Bool) → subjectNumber (cond t (Connector (connectorId (connector m i .id))) (Text (connector m i .iri))) < wordRange
       arm true = b .connectorId i
       arm false = b .connectorIri i
 
@@ -50,7 +50,7 @@ module _ (m : Model) (b : Bounded m) where
   unfolding blockSubjectOf blockSubject
   of-block i = arm (eqb (block m i .instanceIri) noText)
     where
-      arm : (t : Bool) → subjectNumber (cond t (Block (block m i .id)) (Text (block m i .instanceIri))) < wordRange
+      arm : (t : Bool) → subjectNumber (cond t (Block (blockId (block m i .id))) (Text (block m i .instanceIri))) < wordRange
       arm true = b .blockId i
       arm false = b .instance i
 

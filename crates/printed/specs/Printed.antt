@@ -72,8 +72,8 @@ codeName DisplayUnitDivergence = 0x44 ∷ 0x69 ∷ 0x73 ∷ 0x70 ∷ 0x6C ∷ 0x
 unfoldable pub subjectField : List ℕ → Subject → List ℕ
 subjectField s Nothing = dash
 subjectField s (Text t) = subjectText s textSubjectKind t
-subjectField s (Connector i) = subjectText s connectorSubjectKind i
-subjectField s (Block i) = subjectText s blockSubjectKind i
+subjectField s (Connector i) = subjectText s connectorSubjectKind (i .0)
+subjectField s (Block i) = subjectText s blockSubjectKind (i .0)
 
 -- a diagnostic's fields, a space before each but the first
 abbrev pub names : Severity → DiagCode → List ℕ

@@ -122,8 +122,8 @@ fn put_subject(
     match subject {
         Subject::Nothing => put_bytes(out, at, b"-"),
         Subject::Text(t) => put_text(image, layout, texts, out, at, TEXT_SUBJECT, t),
-        Subject::Connector(i) => put_text(image, layout, texts, out, at, CONNECTOR_SUBJECT, i),
-        Subject::Block(i) => put_text(image, layout, texts, out, at, BLOCK_SUBJECT, i),
+        Subject::Connector(i) => put_text(image, layout, texts, out, at, CONNECTOR_SUBJECT, i.0),
+        Subject::Block(i) => put_text(image, layout, texts, out, at, BLOCK_SUBJECT, i.0),
     }
 }
 

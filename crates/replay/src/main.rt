@@ -1,8 +1,10 @@
 // Replays the oracle's stored answers (docs/STORED_ANSWERS.md): checks each image of the files that its
 // arguments name, and says how many are refused, and which of them not as the oracle has it: by refusal,
-// counts, a diagnostic, or the filled image.
+// counts, a diagnostic, or the filled image. The last line sums up the files that should agree.
 use agreement::Agreement;
 use agreement::compare;
+use base::part_of;
+use image_texts::same_bytes;
 use libc::STDOUT_FILENO;
 use std::num::wrapping_add_u64;
 use stored::FIRST_RECORD;
@@ -14,6 +16,9 @@ use stored::record_count;
 
 // No file is longer: a record of 131,072 bytes behind the file's first 12.
 const LONGEST_FILE: usize = 131084;
+
+// The length of `wrong`, with which the name of a file begins whose answers are wrong on purpose.
+const WRONG_LENGTH: usize = 5;
 
 // Of one file or of several.
 struct Sum {
@@ -144,6 +149,11 @@ fn is_refused(r: Record) -> u64 {
     1
 }
 
+// Whether a file's answers are wrong on purpose, by its name: it isn't summed up with the others.
+fn is_wrong(name: &[u8]) -> bool {
+    same_bytes(part_of(name, 0, WRONG_LENGTH), b"wrong")
+}
+
 // Record k of a file.
 fn replay_record(name: &[u8], file: &[u8], k: usize, r: Record) -> Sum {
     let found = compare(file, r);
@@ -208,6 +218,9 @@ fn replay_bytes(name: &[u8], file: &[u8]) -> Sum {
     print(b" ");
     let sum = last.sum;
     print_sum(sum);
+    if is_wrong(name) {
+        return nothing();
+    }
     sum
 }
 

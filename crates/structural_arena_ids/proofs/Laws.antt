@@ -25,6 +25,8 @@ use Rattle.image_accept.specs.declared.Layout.{Layout}
 use Rattle.image_records.specs.Records.{blockRead, connectorRead}
 use Rattle.image_records.proofs.Laws.{port-is, blocks-counted, connectors-counted, blocks-few, connectors-few}
 use Rattle.oce_diag.proofs.Putting.{put-then, put-as}
+use Rattle.oce_model.specs.declared.BlockId.{BlockId}
+use Rattle.oce_model.specs.declared.ConnectorId.{ConnectorId}
 use Rattle.oce_model.specs.declared.Block.{Block as Read}
 use Rattle.oce_model.specs.declared.Connector.{Connector as ReadConnector}
 use Rattle.structural_arena_ids.specs.PerRecord.{portFault, idAndBlock}
@@ -51,9 +53,9 @@ ports-each m b detail s ids n =
 pub no-more : {a b n : ℕ} → a ≡ b → b ≤ n → a ≤ n
 no-more e h = rw e h
 
-subject-is : (k : Block) {r : Read} → r ≡ blockRead k → blockSubject (r .instance) (r .id .0) ≡ blockSubjectOf k
+subject-is : (k : Block) {r : Read} → r ≡ blockRead k → blockSubject (r .instance) (r .id) ≡ blockSubjectOf k
 unfolding blockRead blockSubjectOf
-subject-is k e = ap (λ (y : Read). blockSubject (y .instance) (y .id .0)) e
+subject-is k e = ap (λ (y : Read). blockSubject (y .instance) (y .id)) e
 
 id-is : (k : Block) {r : Read} → r ≡ blockRead k → r .id .0 ≡ k .id
 unfolding blockRead
@@ -71,7 +73,7 @@ module _ {s : List ℕ} {l : Layout} (h : Laid s l) (i at : ℕ) (w : block (mod
   -- a block
   pub block-put : {b b′ b″ : List ℕ} {c c′ c″ : Counted} {r : Read} {subject : Subject} {x : Diagnostic}
       → r ≡ blockRead (blockAt s at) → r .inputs ≡ inputCountAt s at → r .outputs ≡ outputCountAt s at
-      → subject ≡ blockSubject (r .instance) (r .id .0) → x ≡ error MalformedDocument 1 1 subject i
+      → subject ≡ blockSubject (r .instance) (r .id) → x ≡ error MalformedDocument 1 1 subject i
       → Put b c (only (not (eqb (r .id .0) i)) x) b′ c′
       → Put b′ c′ (each (r .inputs) (portFault (l .connectors .count) subject 2 s (at + blockPorts)) ++ each (r .outputs) (portFault (l .connectors .count) subject 3 s (at + blockPorts + portLength * r .inputs))) b″ c″
       → Put b c (blockFaults (modelOf s) i (block (modelOf s) i)) b″ c″
@@ -85,9 +87,9 @@ module _ {s : List ℕ} {l : Layout} (h : Laid s l) (i at : ℕ) (w : block (mod
       let q₁ : Put b′ c′ (portFaults m k 2 (k .inputs) ++ portFaults m k 3 (k .outputs)) b″ c″ = both-ports m s at (l .connectors .count) (r .inputs) (r .outputs) subject q (connectors-counted h) ei eo f in
       rw (w, append-assoc) (put-then p₁ q₁)
 
-connector-subject-is : (k : Connector) {r : ReadConnector} → r ≡ connectorRead k → connectorSubject (r .iri) (r .id .0) ≡ subjectOf k
+connector-subject-is : (k : Connector) {r : ReadConnector} → r ≡ connectorRead k → connectorSubject (r .iri) (r .id) ≡ subjectOf k
 unfolding connectorRead subjectOf
-connector-subject-is k e = ap (λ (y : ReadConnector). connectorSubject (y .iri) (y .id .0)) e
+connector-subject-is k e = ap (λ (y : ReadConnector). connectorSubject (y .iri) (y .id)) e
 
 connector-id-is : (k : Connector) {r : ReadConnector} → r ≡ connectorRead k → r .id .0 ≡ k .id
 unfolding connectorRead
@@ -98,22 +100,22 @@ unfolding connectorRead
 connector-block-is k e = ap (λ (y : ReadConnector). y .block .0) e
 
 -- two tests, one after the other
-pub two-put : (i id block n : ℕ) (subject : Subject) {b b′ b″ : List ℕ} {c c′ c″ : Counted} {x y : Diagnostic}
-    → Put b c (only (not (eqb id i)) x) b′ c′ → x ≡ error MalformedDocument 1 4 subject i
-    → Put b′ c′ (only (not (ltb block n)) y) b″ c″ → y ≡ error MalformedDocument 1 5 subject i
+pub two-put : (i id : ConnectorId) (block : BlockId) (n : ℕ) (subject : Subject) {b b′ b″ : List ℕ} {c c′ c″ : Counted} {x y : Diagnostic}
+    → Put b c (only (not (eqb (id .0) (i .0))) x) b′ c′ → x ≡ error MalformedDocument 1 4 subject (i .0)
+    → Put b′ c′ (only (not (ltb (block .0) n)) y) b″ c″ → y ≡ error MalformedDocument 1 5 subject (i .0)
     → Put b c (idAndBlock i id block n subject) b″ c″
 unfolding idAndBlock
 two-put i id block n subject p ex q ey = rw (← ex, ← ey) (put-then p q)
 
-module _ {s : List ℕ} {l : Layout} (h : Laid s l) (i : ℕ) where
+module _ {s : List ℕ} {l : Layout} (h : Laid s l) (i : ConnectorId) where
   -- a connector
   pub connector-put : {b b′ : List ℕ} {c c′ : Counted} {r : ReadConnector} {subject : Subject}
-      → r ≡ connectorRead (connector (modelOf s) i) → subject ≡ connectorSubject (r .iri) (r .id .0)
-      → Put b c (idAndBlock i (r .id .0) (r .block .0) (l .blocks .count) subject) b′ c′
-      → Put b c (connectorFaults (modelOf s) i (connector (modelOf s) i)) b′ c′
+      → r ≡ connectorRead (connector (modelOf s) (i .0)) → subject ≡ connectorSubject (r .iri) (r .id)
+      → Put b c (idAndBlock i (r .id) (r .block) (l .blocks .count) subject) b′ c′
+      → Put b c (connectorFaults (modelOf s) (i .0) (connector (modelOf s) (i .0))) b′ c′
   unfolding connectorFaults idAndBlock
   connector-put e es p =
-      let k = connector (modelOf s) i in
+      let k = connector (modelOf s) (i .0) in
       rw (← (es ∙ connector-subject-is k e), ← (connector-id-is k e), ← (connector-block-is k e), ← (blocks-counted h)) p
 
 module _ {s : List ℕ} {l : Layout} (h : Laid s l) where

@@ -126,7 +126,7 @@ pub fn block_faults(
     let at = block_offset(image, layout, blocks, i);
     let b = block(image, at);
     let id = b.id;
-    let subject = block_subject_of(b.instance, id.0);
+    let subject = block_subject_of(b.instance, id);
     let connectors = layout.connectors;
     let own = error(DiagCode::MalformedDocument, 1, 1, subject, i.0);
     let c = put_if(report, counted, id.0 != i.0, own);
@@ -166,9 +166,9 @@ fn all_blocks(
 
 // What was read of connector i, in a model of n blocks.
 fn id_and_block(
-    i: u32,
-    id: u32,
-    block: u32,
+    i: ConnectorId,
+    id: ConnectorId,
+    block: BlockId,
     n: usize,
     subject: Subject,
     report: &mut [u8],
@@ -177,10 +177,10 @@ fn id_and_block(
     requires { ⌜ Countable mostConnectorFaults counted ⌝ }
     ensures { λ r. ⌜ Put (now (report .entry)) counted (idAndBlock i id block n subject) (now (report .exit)) r × Adds mostConnectorFaults counted r ⌝ }
 {
-    let own = error(DiagCode::MalformedDocument, 1, 4, subject, i);
-    let before = put_if(report, counted, id != i, own);
-    let outside = error(DiagCode::MalformedDocument, 1, 5, subject, i);
-    put_if(report, before, !((block as usize) < n), outside)
+    let own = error(DiagCode::MalformedDocument, 1, 4, subject, i.0);
+    let before = put_if(report, counted, id.0 != i.0, own);
+    let outside = error(DiagCode::MalformedDocument, 1, 5, subject, i.0);
+    put_if(report, before, !((block.0 as usize) < n), outside)
 }
 
 // What rule 1 reports of connector i: its id, then its block.
@@ -197,9 +197,9 @@ pub fn connector_faults(
     let c = connector(image, layout, i);
     let id = c.id;
     let block = c.block;
-    let subject = subject_of(c.iri, id.0);
+    let subject = subject_of(c.iri, id);
     let blocks = layout.blocks;
-    id_and_block(i.0, id.0, block.0, blocks.count, subject, report, counted)
+    id_and_block(i, id, block, blocks.count, subject, report, counted)
 }
 
 fn all_connectors(image: &[u8], layout: Layout, report: &mut [u8], counted: Counted) -> Counted

@@ -87,7 +87,7 @@ module _ (m : Model) (i : ℕ) {r : Connector} (e : r ≡ connectorRead (connect
   not-assigned n = rw (ne-eqb _ _ (λ q. n (dir-is (connector m i) e ∙ q))) put-none
 
   -- and one that is an input
-  pub assigned : {b b′ : List ℕ} {c c′ : Counted} {subject : Subject} → r .dir ≡ dirIn → subject ≡ connectorSubject (r .iri) (r .id .0)
+  pub assigned : {b b′ : List ℕ} {c c′ : Counted} {subject : Subject} → r .dir ≡ dirIn → subject ≡ connectorSubject (r .iri) (r .id)
       → Put b c (degreeFaults i subject (degree m (r .id .0)) (external m (r .id .0))) b′ c′
       → Put b c (assignmentFaults m i (connector m i)) b′ c′
   unfolding assignmentFaults degreeFaults undriven

@@ -102,7 +102,7 @@ pub fn assignment_faults(
         return counted;
     }
     let id = c.id;
-    let subject = subject_of(c.iri, id.0);
+    let subject = subject_of(c.iri, id);
     degree_faults(image, layout, degrees, externals, i, id, subject, report, counted)
 }
 

@@ -6,7 +6,7 @@ use native.Mathlib.Omega.{arith}
 use mathlib.Core.Path.{_≡_, refl, sym, ap, _∙_}
 use mathlib.Core.Bool.{Bool, true, false, cond, _||_}
 use mathlib.Core.List.{List, [], _∷_, _++_, append-nil}
-use lib.Dec.{eqb, leb}
+use lib.Dec.{eqb, ltb, leb}
 use lib.ListN.{length, getD, take, drop, set, length-set, length-append, length-drop, length-take, List·getD-append}
 use lib.Seq.{getD-set-same, getD-set-other, take-suc, take-all, take-at, drop-at, take-suc-set, drop-set-add, drop-set-lt, take-set-le, getD-take, length-take-le}
 use borrow.Author.Tests.{eq-eqb, ne-eqb, le-leb, lt-leb, leb-false}
@@ -128,7 +128,7 @@ module _ {s : List ℕ} {l : Layout} (h : Laid s l) where
           room = rw same (v .room);
           each = rw same (λ i q. o .each i q ∙ v .each i q ∙ ap (λ t. cond (any (eqb i) t) 1 0) all);
           few = rw same (let c = o .count in let f = others-fit a in omega arith);
-          rest = rw same (ap (λ c. behind (listedIds xs) c xs′) (o .count) ∙ o .rest ∙ ap sorted (v .rest ∙ ap (others (listedIds xs)) all));
+          rest = rw same (ap (λ c. behind (listedIds xs) c xs′) (o .count) ∙ o .rest ∙ ap (sorted ltb) (v .rest ∙ ap (others (listedIds xs)) all));
         }
 
 -- ---- the others sorted
@@ -142,10 +142,10 @@ module _ (xs s : List ℕ) (n : ℕ) (few : n ≤ listedIds xs) (room : othersCo
     count = getD-set-same xs (othersCount xs) n 0 room;
     rest =
         (let one : length (behind (listedIds xs) n xs) ≤ 1 = simp length-take (omega arith) in
-        ap (take n) (drop-set-add (listedIds xs) xs (listedIds xs) n) ∙ take-set-le n (drop (listedIds xs) xs) (listedIds xs) n few ∙ sorted-few (behind (listedIds xs) n xs) one);
+        ap (take n) (drop-set-add (listedIds xs) xs (listedIds xs) n) ∙ take-set-le n (drop (listedIds xs) xs) (listedIds xs) n few ∙ sorted-few ltb (behind (listedIds xs) n xs) one);
   }
 
-  sorted-behind : s ≡ sorted (behind (listedIds xs) n xs) → Ordered n xs (set (take (listedIds xs) xs ++ (s ++ drop n (drop (listedIds xs) xs))) (othersCount xs) n)
+  sorted-behind : s ≡ sorted ltb (behind (listedIds xs) n xs) → Ordered n xs (set (take (listedIds xs) xs ++ (s ++ drop n (drop (listedIds xs) xs))) (othersCount xs) n)
   sorted-behind e = record {
     same = length-set ys (othersCount xs) n ∙ long;
     each = λ i h.
@@ -165,7 +165,7 @@ module _ (xs s : List ℕ) (n : ℕ) (few : n ≤ listedIds xs) (room : othersCo
       fits = rw length-drop (omega arith)
 
       part : length s ≡ n
-      part = ap length e ∙ sorted-length (behind (listedIds xs) n xs) ∙ length-take-le n (drop (listedIds xs) xs) fits
+      part = ap length e ∙ sorted-length ltb (behind (listedIds xs) n xs) ∙ length-take-le n (drop (listedIds xs) xs) fits
 
       long : length ys ≡ length xs
       long = simp (length-append, length-drop) (omega (arith, front, part))
@@ -175,7 +175,7 @@ module _ (xs s : List ℕ) (n : ℕ) (few : n ≤ listedIds xs) (room : othersCo
     pub noted : n ≤ 1 → Ordered n xs (set xs (h + h) n)
     noted l = rw q (noted-as l)
 
-    pub ordered : s ≡ sorted (take (h + n - h) (drop h xs)) → Ordered n xs (set (take h xs ++ (s ++ drop (h + n - h) (drop h xs))) (h + h) n)
+    pub ordered : s ≡ sorted ltb (take (h + n - h) (drop h xs)) → Ordered n xs (set (take h xs ++ (s ++ drop (h + n - h) (drop h xs))) (h + h) n)
     ordered e = let z : h + n - h ≡ n = omega arith in rw (z, q) (sorted-behind (rw (z, q) at e))
 
 -- ---- an id looked up
@@ -203,7 +203,7 @@ any-others h id l (x ∷ xs) = arm (leb h x) refl (any-others h id l xs)
     arm false e f = let g = leb-false h x e in f ∙ rw (ne-eqb id x (λ z. absurd (omega arith)))
 
 module _ {m : Model} {xs : List ℕ} {h c : ℕ} (v : Listed m xs) (q : h ≡ listedIds xs) (e : c ≡ getD xs (othersCount xs) 0) where
-  others-are : take (h + c - h) (drop h xs) ≡ sorted (others h (m .externalInputs))
+  others-are : take (h + c - h) (drop h xs) ≡ sorted ltb (others h (m .externalInputs))
   others-are = let z : h + c - h ≡ getD xs (othersCount xs) 0 = omega arith in rw (z, q) (v .rest)
 
   pub others-ascend : Ascending (take (h + c - h) (drop h xs))
@@ -211,4 +211,4 @@ module _ {m : Model} {xs : List ℕ} {h c : ℕ} (v : Listed m xs) (q : h ≡ li
 
   pub others-tell : {id : ℕ} {r : Bool} → h ≤ id → r ≡ any (eqb id) (take (h + c - h) (drop h xs)) → r ≡ external m id
   unfolding external
-  others-tell {id} l p = p ∙ ap (any (eqb id)) others-are ∙ any-sorted (eqb id) (others h (m .externalInputs)) ∙ any-others h id l (m .externalInputs)
+  others-tell {id} l p = p ∙ ap (any (eqb id)) others-are ∙ any-sorted ltb (eqb id) (others h (m .externalInputs)) ∙ any-others h id l (m .externalInputs)

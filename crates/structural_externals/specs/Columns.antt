@@ -3,7 +3,7 @@ use Prim.Native.Nat.{ℕ, _+_, _/_, _<_, _≤_}
 use mathlib.Core.Path.{_≡_}
 use mathlib.Core.Bool.{cond}
 use mathlib.Core.List.{List}
-use lib.Dec.{eqb, leb}
+use lib.Dec.{eqb, ltb, leb}
 use lib.ListN.{length, getD, take, drop}
 use Rattle.base.specs.Lists.{any, keep}
 use Rattle.oce_model.specs.Model.{Model}
@@ -43,11 +43,11 @@ pub record Ordered (n : ℕ) (xs xs′ : List ℕ) : Type 0 where
   pub same : length xs′ ≡ length xs
   pub each : (i : ℕ) → i < listedIds xs → getD xs′ i 0 ≡ getD xs i 0
   pub count : getD xs′ (othersCount xs) 0 ≡ n
-  pub rest : behind (listedIds xs) n xs′ ≡ sorted (behind (listedIds xs) n xs)
+  pub rest : behind (listedIds xs) n xs′ ≡ sorted ltb (behind (listedIds xs) n xs)
 
 -- a 1 for each id that has an entry and is external, and behind the entries the others in ascending order
 pub record Listed (m : Model) (xs : List ℕ) : Type 0 where
   pub room : othersCount xs < length xs
   pub each : (i : ℕ) → i < listedIds xs → getD xs i 0 ≡ cond (external m i) 1 0
   pub few : getD xs (othersCount xs) 0 ≤ listedIds xs
-  pub rest : behind (listedIds xs) (getD xs (othersCount xs) 0) xs ≡ sorted (others (listedIds xs) (m .externalInputs))
+  pub rest : behind (listedIds xs) (getD xs (othersCount xs) 0) xs ≡ sorted ltb (others (listedIds xs) (m .externalInputs))

@@ -105,7 +105,7 @@ end-tests k start end from to same p ex q ey r ez = rw (← ex, ← ey, ← ez) 
 -- subjects, directions and types, as they were read
 pub ends-read : (m : Model) (k i j : ℕ) {b b′ : List ℕ} {c c′ : Counted} {r t : Connector} {from to : Subject} {same : Bool}
     → r ≡ connectorRead (connector m i) → t ≡ connectorRead (connector m j)
-    → from ≡ connectorSubject (r .iri) (r .id .0) → to ≡ connectorSubject (t .iri) (t .id .0)
+    → from ≡ connectorSubject (r .iri) (r .id) → to ≡ connectorSubject (t .iri) (t .id)
     → same ≡ (eqb (r .kind) (t .kind) && eqb (r .class) (t .class))
     → Put b c (endFaults k from (r .dir) to (t .dir) same) b′ c′
     → Put b c (endFaults k (subjectOf (connector m i)) (connector m i .dir) (subjectOf (connector m j)) (connector m j .dir) (sameType (connector m i) (connector m j))) b′ c′

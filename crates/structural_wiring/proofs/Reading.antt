@@ -22,6 +22,6 @@ module _ {r : Connector} (k : ModelConnector) (e : r ≡ connectorRead k) where
   unfolding connectorRead
   class-is = ap (λ (y : Connector). y .class) e
 
-  pub subject-is : connectorSubject (r .iri) (r .id .0) ≡ subjectOf k
+  pub subject-is : connectorSubject (r .iri) (r .id) ≡ subjectOf k
   unfolding connectorRead subjectOf
-  subject-is = ap (λ (y : Connector). connectorSubject (y .iri) (y .id .0)) e
+  subject-is = ap (λ (y : Connector). connectorSubject (y .iri) (y .id)) e

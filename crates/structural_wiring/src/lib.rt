@@ -169,14 +169,12 @@ fn end_faults(
     ensures { λ r. ⌜ Put (now (report .entry)) counted (endFaults k (subjectOf (connector (modelOf (now (image .entry))) (from .0))) (connector (modelOf (now (image .entry))) (from .0) .dir) (subjectOf (connector (modelOf (now (image .entry))) (to .0))) (connector (modelOf (now (image .entry))) (to .0) .dir) (sameType (connector (modelOf (now (image .entry))) (from .0)) (connector (modelOf (now (image .entry))) (to .0)))) (now (report .exit)) r × Adds mostConnectionFaults counted r ⌝ }
 {
     let a = connector(image, layout, from);
-    let a_id = a.id;
     let b = connector(image, layout, to);
-    let b_id = b.id;
     directions_and_types(
         k,
-        subject_of(a.iri, a_id.0),
+        subject_of(a.iri, a.id),
         a.dir,
-        subject_of(b.iri, b_id.0),
+        subject_of(b.iri, b.id),
         b.dir,
         same_type(a, b),
         report,

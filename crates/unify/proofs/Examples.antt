@@ -5,7 +5,7 @@ use mathlib.Core.List.{List, [], _∷_, map}
 use lib.Ieee.{ofBits, lt, eq}
 use Rattle.oce_model.specs.Model.{modelOf}
 use Rattle.oce_model.specs.Examples.{models, written}
-use Rattle.oce_diag.specs.Diagnostics.{error, warning}
+use Rattle.oce_diag.specs.Diagnostics.{connectorId, error, warning}
 use Rattle.oce_diag.specs.declared.Diagnostic.{Diagnostic}
 use Rattle.oce_diag.specs.declared.Subject.the-variants.{Connector}
 use Rattle.oce_diag.specs.declared.DiagCode.the-variants.{UnitQuantityMismatch, BoundMismatch, CrossedBounds, DisplayUnitDivergence}
@@ -18,13 +18,13 @@ reported s = rule6 (modelOf s)
 -- c and n: K and degC; d: two zeros; m: display units; p: a filled K and degC
 pub unify : map reported models
     ≡ [] ∷ []
-    ∷ (error UnitQuantityMismatch 6 1 (Connector 0) 0 ∷ [])
-    ∷ (error BoundMismatch 6 3 (Connector 0) 0 ∷ [])
+    ∷ (error UnitQuantityMismatch 6 1 (Connector (connectorId 0)) 0 ∷ [])
+    ∷ (error BoundMismatch 6 3 (Connector (connectorId 0)) 0 ∷ [])
     ∷ [] ∷ [] ∷ [] ∷ [] ∷ [] ∷ [] ∷ [] ∷ []
-    ∷ (warning DisplayUnitDivergence 6 7 (Connector 0) 0 ∷ [])
-    ∷ (error UnitQuantityMismatch 6 1 (Connector 2) 2 ∷ [])
+    ∷ (warning DisplayUnitDivergence 6 7 (Connector (connectorId 0)) 0 ∷ [])
+    ∷ (error UnitQuantityMismatch 6 1 (Connector (connectorId 2)) 2 ∷ [])
     ∷ []
-    ∷ (error UnitQuantityMismatch 6 1 (Connector 1) 1 ∷ [])
+    ∷ (error UnitQuantityMismatch 6 1 (Connector (connectorId 1)) 1 ∷ [])
     ∷ [] ∷ [] ∷ []
 unfolding computed written ofBits lt eq
 unify = refl
@@ -32,9 +32,9 @@ unify = refl
 -- f and n: a min of 5 beside a max of 3
 pub propagation : map (λ s. propagated (modelOf s)) models
     ≡ [] ∷ [] ∷ [] ∷ [] ∷ []
-    ∷ (error CrossedBounds 6 8 (Connector 0) 0 ∷ [])
+    ∷ (error CrossedBounds 6 8 (Connector (connectorId 0)) 0 ∷ [])
     ∷ [] ∷ [] ∷ [] ∷ [] ∷ [] ∷ [] ∷ []
-    ∷ (error CrossedBounds 6 8 (Connector 0) 0 ∷ [])
+    ∷ (error CrossedBounds 6 8 (Connector (connectorId 0)) 0 ∷ [])
     ∷ [] ∷ [] ∷ [] ∷ [] ∷ []
 unfolding computed written ofBits lt eq
 propagation = refl

@@ -33,9 +33,9 @@ use Rattle.unify_cluster.specs.Clusters.{Unseen, Detailed, Details, Disp
 
 -- ---- diagnostics
 
-pub subject-is : (s : List ℕ) (r : ℕ) {c : Connector} {t : Subject} → c ≡ connectorRead (connector (modelOf s) r) → t ≡ connectorSubject (c .iri) (c .id .0) → t ≡ subjectOf (connector (modelOf s) r)
+pub subject-is : (s : List ℕ) (r : ℕ) {c : Connector} {t : Subject} → c ≡ connectorRead (connector (modelOf s) r) → t ≡ connectorSubject (c .iri) (c .id) → t ≡ subjectOf (connector (modelOf s) r)
 unfolding connectorRead subjectOf
-subject-is s r ec et = et ∙ ap (λ (c : Connector). connectorSubject (c .iri) (c .id .0)) ec
+subject-is s r ec et = et ∙ ap (λ (c : Connector). connectorSubject (c .iri) (c .id)) ec
 
 module _ (d : ℕ) {p : ℕ} (ep : p ≡ bitOf d) where
   pub code-text : p < minBit → UnitQuantityMismatch ≡ conflictCode d

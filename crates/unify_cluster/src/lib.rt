@@ -47,8 +47,7 @@ pub fn subject(image: &[u8], layout: Layout, root: ConnectorId) -> Subject
     ensures { λ s. ⌜ s ≡ subjectOf (connector (modelOf (now (image .entry))) (root .0)) ⌝ }
 {
     let c = connector(image, layout, root);
-    let id = c.id;
-    subject_of(c.iri, id.0)
+    subject_of(c.iri, c.id)
 }
 
 // The Rust's `RealAttr::conflict_code`: a text's conflict or an end's.

@@ -7,7 +7,7 @@ use std::process::ExitCode;
 
 use oracle::answer::answer;
 use oracle::coverage::Coverage;
-use oracle::stored::{File, SEED, files, images};
+use oracle::stored::{File, SEED, files, images, wrong};
 use oracle::tool;
 
 fn main() -> ExitCode {
@@ -29,7 +29,7 @@ fn main() -> ExitCode {
 fn write(folder: &Path) -> Result<String, String> {
     let files = files();
     fs::create_dir_all(folder).map_err(|e| format!("cannot make {}: {e}", folder.display()))?;
-    for file in &files {
+    for file in files.iter().chain([&wrong()]) {
         let path = folder.join(&file.name);
         fs::write(&path, &file.bytes)
             .map_err(|e| format!("cannot write {}: {e}", path.display()))?;
@@ -39,7 +39,7 @@ fn write(folder: &Path) -> Result<String, String> {
 
 fn check(folder: &Path) -> Result<String, String> {
     let files = files();
-    for file in &files {
+    for file in files.iter().chain([&wrong()]) {
         if read(folder, &file.name)? != file.bytes {
             return Err(format!("{} isn't what the oracle says now", file.name));
         }

@@ -1,0 +1,2 @@
+-- Whether what a check of a stored image gives agrees with the stored answer.
+pub mod Agreement

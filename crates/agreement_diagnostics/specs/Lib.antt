@@ -1,0 +1,2 @@
+-- Stored diagnostics beside those of a report.
+pub mod Diagnostics

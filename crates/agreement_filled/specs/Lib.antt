@@ -1,0 +1,2 @@
+-- Stored filled records, and the image with their attributes.
+pub mod Filled
