@@ -81,9 +81,11 @@ fn results_agree(
     if oracle.told == 0 {
         return Agreement::Same;
     }
+    let stored_errors = oracle.errors;
+    let stored_warnings = oracle.warnings;
     let e = errors as usize;
     let w = warnings as usize;
-    if (oracle.errors == e) & (oracle.warnings == w) {
+    if (stored_errors == e) & (stored_warnings == w) {
         return parts_agree(file, stored, image, e + w, filled, report);
     }
     Agreement::Counts

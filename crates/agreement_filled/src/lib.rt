@@ -67,7 +67,11 @@ fn put_record(file: &[u8], at: usize, image: &[u8], layout: Layout, expected: &m
         return 0;
     }
     let to = slot_offset(image, layout, j);
-    copy_at(expected, to, part_of(file, at + ATTRIBUTES_AT, ATTRS_LENGTH));
+    copy_at(
+        expected,
+        to,
+        part_of(file, at + ATTRIBUTES_AT, ATTRS_LENGTH),
+    );
     1
 }
 

@@ -72,4 +72,3 @@ startsWith-length bs b h = simp (length-append, length-drop) (omega arith)
 pub startsWith-patch : (bs b : List ℕ) → startsWith bs b ≡ patch b 0 bs
 unfolding startsWith patch
 startsWith-patch bs b = rw zero-add
-

@@ -206,4 +206,3 @@ same-sound (x ∷ xs) (y ∷ ys) h =
     let e : x ≡ y = eqb-true x y (and-parts (eqb x y) (same xs ys) h .0) in
     let f : xs ≡ ys = same-sound xs ys (and-parts (eqb x y) (same xs ys) h .1) in
     rw (e, f)
-

@@ -1,12 +1,12 @@
 // Which members of the groups of rule 5.4 may be reported: those whose bucket, by the bytes of the iri, has
 // several members and an external one.
-use image_accept::Layout;
 use crossed_members::member_external;
 use crossed_members::member_iri;
 use crossed_members::member_joins;
+use image_accept::Layout;
+use image_texts::text_of;
 use numbers::at64;
 use numbers::read64;
-use image_texts::text_of;
 ghost use mathlib.Core.Path.{_≡_};
 ghost use mathlib.Core.Bool.{_&&_};
 ghost use Prim.Native.Nat.{_+_, _%_, _<_, _≤_};

@@ -1,16 +1,18 @@
 // Rule 5.4: the combined domains of boundary inputs, `check_combined_input_domains`. The members that take
 // part, and whose bucket is crowded, are sorted by the bytes of their iris; a group is a run of neighbours
 // with equal bytes. One pass keeps of the open group what a diagnostic needs.
-use image_accept::Layout;
-use crossed_ranges::is_crossed;
-use crossed_ranges::take_in;
-use crossed_ranges::uncrossed;
 use crossed_bounds::Range;
 use crossed_buckets::collect_crowded;
 use crossed_members::member_external;
 use crossed_members::member_iri;
 use crossed_members::member_range;
 use crossed_members::some_external;
+use crossed_ranges::is_crossed;
+use crossed_ranges::take_in;
+use crossed_ranges::uncrossed;
+use crossed_sort::sort;
+use image_accept::Layout;
+use image_texts::same_text;
 use oce_diag::Counted;
 use oce_diag::DiagCode;
 use oce_diag::Subject;
@@ -18,8 +20,6 @@ use oce_diag::error;
 use oce_diag::put_if;
 use oce_model::MOST_BOUNDARY_INPUTS;
 use oce_model::MOST_CONNECTORS;
-use crossed_sort::sort;
-use image_texts::same_text;
 ghost use mathlib.Core.Path.{_≡_};
 ghost use mathlib.Core.Bool.{_||_};
 ghost use Prim.Native.Nat.{_+_, _<_, _≤_};

@@ -1,16 +1,16 @@
 // The members of the groups of rule 5.4, by one numbering: the connectors, and behind them the boundary
 // inputs.
-use image_accept::Layout;
 use crossed_bounds::Range;
-use structural_externals::is_external;
-use oce_model::ConnectorId;
-use oce_model::DIR_IN;
-use oce_model::NO_TEXT;
 use crossed_ranges::range_of;
+use image_accept::Layout;
 use image_records::boundary_input_attrs;
 use image_records::boundary_input_iri;
 use image_records::connector;
 use image_records::connector_attrs;
+use oce_model::ConnectorId;
+use oce_model::DIR_IN;
+use oce_model::NO_TEXT;
+use structural_externals::is_external;
 ghost use mathlib.Core.Path.{_≡_};
 ghost use Prim.Native.Nat.{_+_, _<_, _≤_};
 ghost use lib.ListN.{length};

@@ -34,50 +34,50 @@ ghost use Rattle.filling.specs.Small.{Small};
 ghost use Rattle.filling.specs.Parts.{leadBytes, textBytes, endBytes};
 
 // Kind and marks of slot j.
-fn store_lead(filled: &mut [u8], at: usize, slot_count: usize, table: &[u64], j: usize)
-    requires { ⌜ (at + 2 ≤ length (now filled)) × Room «slot_count» (now table) × Small (view «slot_count» (now table)) × (j < «slot_count») ⌝ }
-    ensures { λ _. ⌜ now (filled .exit) ≡ patch (now (filled .entry)) at (leadBytes (slot (view «slot_count» (now (table .entry))) j)) ⌝ }
+fn store_lead(filled: &mut [u8], at: usize, slots: usize, table: &[u64], j: usize)
+    requires { ⌜ (at + 2 ≤ length (now filled)) × Room slots (now table) × Small (view slots (now table)) × (j < slots) ⌝ }
+    ensures { λ _. ⌜ now (filled .exit) ≡ patch (now (filled .entry)) at (leadBytes (slot (view slots (now (table .entry))) j)) ⌝ }
 {
-    let kind = kind_at(slot_count, table, j);
-    let marks = marks_at(slot_count, table, j);
+    let kind = kind_at(slots, table, j);
+    let marks = marks_at(slots, table, j);
     let lead: [u8; 2] = [kind as u8, marks as u8];
     copy_at(filled, at, &lead);
 }
 
 // Its text numbers, by their low 16 bits.
-fn store_texts(filled: &mut [u8], at: usize, slot_count: usize, table: &[u64], j: usize)
-    requires { ⌜ (at + 6 ≤ length (now filled)) × Room «slot_count» (now table) × (j < «slot_count») ⌝ }
-    ensures { λ _. ⌜ now (filled .exit) ≡ patch (now (filled .entry)) at (textBytes (slot (view «slot_count» (now (table .entry))) j)) ⌝ }
+fn store_texts(filled: &mut [u8], at: usize, slots: usize, table: &[u64], j: usize)
+    requires { ⌜ (at + 6 ≤ length (now filled)) × Room slots (now table) × (j < slots) ⌝ }
+    ensures { λ _. ⌜ now (filled .exit) ≡ patch (now (filled .entry)) at (textBytes (slot (view slots (now (table .entry))) j)) ⌝ }
 {
-    let quantity = number(slot_count, table, j, QUANTITY_BIT);
-    let unit = number(slot_count, table, j, UNIT_BIT);
-    let display = number(slot_count, table, j, DISPLAY_UNIT_BIT);
+    let quantity = number(slots, table, j, QUANTITY_BIT);
+    let unit = number(slots, table, j, UNIT_BIT);
+    let display = number(slots, table, j, DISPLAY_UNIT_BIT);
     write16(filled, at, (quantity % 65536) as u16);
     write16(filled, at + 2, (unit % 65536) as u16);
     write16(filled, at + 4, (display % 65536) as u16);
 }
 
 // Its numbers of 64 bits.
-fn store_ends(filled: &mut [u8], at: usize, slot_count: usize, table: &[u64], j: usize)
-    requires { ⌜ (at + 24 ≤ length (now filled)) × Room «slot_count» (now table) × (j < «slot_count») ⌝ }
-    ensures { λ _. ⌜ now (filled .exit) ≡ patch (now (filled .entry)) at (endBytes (slot (view «slot_count» (now (table .entry))) j)) ⌝ }
+fn store_ends(filled: &mut [u8], at: usize, slots: usize, table: &[u64], j: usize)
+    requires { ⌜ (at + 24 ≤ length (now filled)) × Room slots (now table) × (j < slots) ⌝ }
+    ensures { λ _. ⌜ now (filled .exit) ≡ patch (now (filled .entry)) at (endBytes (slot (view slots (now (table .entry))) j)) ⌝ }
 {
-    let min = number(slot_count, table, j, MIN_BIT);
-    let max = number(slot_count, table, j, MAX_BIT);
-    let nominal = number(slot_count, table, j, NOMINAL_BIT);
+    let min = number(slots, table, j, MIN_BIT);
+    let max = number(slots, table, j, MAX_BIT);
+    let nominal = number(slots, table, j, NOMINAL_BIT);
     write64(filled, at, min);
     write64(filled, at + 8, max);
     write64(filled, at + 16, nominal);
 }
 
 // The attributes of slot j.
-fn store_slot(filled: &mut [u8], at: usize, slot_count: usize, table: &[u64], j: usize)
-    requires { ⌜ (at + attrsLength ≤ length (now filled)) × Room «slot_count» (now table) × Small (view «slot_count» (now table)) × (j < «slot_count») ⌝ }
-    ensures { λ _. ⌜ now (filled .exit) ≡ patch (now (filled .entry)) at (attrsBytes (slot (view «slot_count» (now (table .entry))) j)) ⌝ }
+fn store_slot(filled: &mut [u8], at: usize, slots: usize, table: &[u64], j: usize)
+    requires { ⌜ (at + attrsLength ≤ length (now filled)) × Room slots (now table) × Small (view slots (now table)) × (j < slots) ⌝ }
+    ensures { λ _. ⌜ now (filled .exit) ≡ patch (now (filled .entry)) at (attrsBytes (slot (view slots (now (table .entry))) j)) ⌝ }
 {
-    store_lead(filled, at, slot_count, table, j);
-    store_texts(filled, at + ATTRS_QUANTITY_AT, slot_count, table, j);
-    store_ends(filled, at + ATTRS_MIN_AT, slot_count, table, j);
+    store_lead(filled, at, slots, table, j);
+    store_texts(filled, at + ATTRS_QUANTITY_AT, slots, table, j);
+    store_ends(filled, at + ATTRS_MIN_AT, slots, table, j);
 }
 
 // Where the attributes of record i of a section stand, by the size of its records and what stands before.
@@ -110,15 +110,15 @@ pub fn copy_image(image: &[u8], filled: &mut [u8])
 }
 
 // The image with the attributes of the table's slots, all it has.
-pub fn fill_image(image: &[u8], layout: Layout, slot_count: usize, table: &[u64], filled: &mut [u8])
-    requires { ⌜ Laid (now image) layout × («slot_count» ≡ slotCount (modelOf (now image))) × Room «slot_count» (now table) × Small (view «slot_count» (now table)) × (length (now image) ≤ length (now filled)) ⌝ }
-    ensures { λ _. ⌜ now (filled .exit) ≡ startsWith (withSlots (now (image .entry)) (view «slot_count» (now (table .entry)))) (now (filled .entry)) ⌝ }
+pub fn fill_image(image: &[u8], layout: Layout, slots: usize, table: &[u64], filled: &mut [u8])
+    requires { ⌜ Laid (now image) layout × (slots ≡ slotCount (modelOf (now image))) × Room slots (now table) × Small (view slots (now table)) × (length (now image) ≤ length (now filled)) ⌝ }
+    ensures { λ _. ⌜ now (filled .exit) ≡ startsWith (withSlots (now (image .entry)) (view slots (now (table .entry)))) (now (filled .entry)) ⌝ }
 {
     copy_image(image, filled);
     let mut j = 0;
-    while j < slot_count {
+    while j < slots {
         let at = slot_offset(image, layout, j);
-        store_slot(filled, at, slot_count, table, j);
+        store_slot(filled, at, slots, table, j);
         j += 1;
     }
 }

@@ -1,8 +1,8 @@
 // Attributes, read from where they stand in an image.
 use numbers::int_of_bits;
+use numbers::read8;
 use numbers::read16;
 use numbers::read64;
-use numbers::read8;
 use numbers::real_of_bits;
 use oce_model::ATTRS_DISPLAY_UNIT_AT;
 use oce_model::ATTRS_MARKS_AT;

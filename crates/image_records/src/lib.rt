@@ -2,9 +2,9 @@
 // each record stands.
 use image_accept::Layout;
 use image_accept::Section;
+use numbers::read8;
 use numbers::read16;
 use numbers::read32;
-use numbers::read8;
 use oce_model::BLOCK_ID_AT;
 use oce_model::BLOCK_INPUTS_AT;
 use oce_model::BLOCK_INSTANCE_AT;
@@ -109,7 +109,10 @@ pub fn external_input(image: &[u8], layout: Layout, i: usize) -> usize
     ensures { λ r. ⌜ (r ≡ getD (modelOf (now (image .entry)) .externalInputs) i 0) × (r < wordRange) ⌝ }
 {
     let c = layout.externals;
-    read32(image, record_at(c, EXTERNAL_INPUT_SIZE, i) + EXTERNAL_INPUT_ID_AT)
+    read32(
+        image,
+        record_at(c, EXTERNAL_INPUT_SIZE, i) + EXTERNAL_INPUT_ID_AT,
+    )
 }
 
 // ---- boundary records
@@ -120,7 +123,10 @@ pub fn boundary_input_iri(image: &[u8], layout: Layout, i: usize) -> usize
     ensures { λ r. ⌜ (r ≡ boundaryInput (modelOf (now (image .entry))) i .iri) × (r < shortRange) ⌝ }
 {
     let c = layout.inputs;
-    read16(image, record_at(c, BOUNDARY_INPUT_SIZE, i) + BOUNDARY_INPUT_IRI_AT)
+    read16(
+        image,
+        record_at(c, BOUNDARY_INPUT_SIZE, i) + BOUNDARY_INPUT_IRI_AT,
+    )
 }
 
 // Where its attributes stand.

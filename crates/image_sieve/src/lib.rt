@@ -150,7 +150,9 @@ fn block_faulty(n: usize, s: &[u8], f: Field) -> bool
     }
     let inputs = read16(s, at + BLOCK_INPUTS_AT);
     let outputs = read16(s, at + BLOCK_OUTPUTS_AT);
-    bad_ports(len, inputs, outputs) | too_many(f) | bad_or_none(n, read16(s, at + BLOCK_INSTANCE_AT))
+    bad_ports(len, inputs, outputs)
+        | too_many(f)
+        | bad_or_none(n, read16(s, at + BLOCK_INSTANCE_AT))
 }
 
 // Any field, one refusal after the other; for the head, which stands once.

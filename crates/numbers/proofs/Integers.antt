@@ -50,4 +50,3 @@ integers = record {
   le-not-lt = λ x y h p q. int-le-not-lt x y h;
   le-trans = λ x y z h k p q r. int-le-trans x y z h k;
 }
-

@@ -21,4 +21,3 @@ module _ {X : Type 0} {ok : X → Bool} {lt le : X → X → Bool} (o : Ordered 
       arm : (b : Bool) → lt y x ≡ b → (le x y ≡ true) ⊎ (le y x ≡ true)
       arm true h = inr (o .lt-le y x h)
       arm false h = inl (o .not-lt-le x y h p q)
-

@@ -148,4 +148,3 @@ reals = record {
   le-not-lt = real-le-not-lt;
   le-trans = real-le-trans;
 }
-

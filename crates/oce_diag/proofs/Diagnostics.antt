@@ -55,4 +55,3 @@ some-error (d ∷ ds) l = arm (isError d) l (some-error ds)
     arm : (b : Bool) → 0 < length (cond b (d ∷ keep isError ds) (keep isError ds)) → (0 < length (keep isError ds) → hasError ds ≡ true) → (b || hasError ds) ≡ true
     arm true h ih = refl
     arm false h ih = ih h
-

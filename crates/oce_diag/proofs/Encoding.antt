@@ -18,4 +18,3 @@ unfolding reportBytes
 reportBytes-length [] = refl
 reportBytes-length (d ∷ ds) =
     rw (length-append (diagnosticBytes d) (reportBytes ds), diagnosticBytes-length d, reportBytes-length ds) (omega (arith, mul-suc diagnosticSize (length ds)))
-

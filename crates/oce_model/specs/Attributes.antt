@@ -22,8 +22,8 @@ attrsAt s at = record {
   kind = byte s at;
   marks = byte s (at + attrsMarksAt);
   nums =
-    le16 s (at + attrsQuantityAt) ∷ le16 s (at + attrsUnitAt) ∷ le16 s (at + attrsDisplayUnitAt)
-    ∷ le64 s (at + attrsMinAt) ∷ le64 s (at + attrsMaxAt) ∷ le64 s (at + attrsNominalAt) ∷ [];
+      le16 s (at + attrsQuantityAt) ∷ le16 s (at + attrsUnitAt) ∷ le16 s (at + attrsDisplayUnitAt)
+      ∷ le64 s (at + attrsMinAt) ∷ le64 s (at + attrsMaxAt) ∷ le64 s (at + attrsNominalAt) ∷ [];
 }
 
 abbrev pub num : Attrs → ℕ → ℕ

@@ -1,14 +1,13 @@
 -- Laws of a report that is printed, and of fields that are listed, piece by piece.
 use Prim.Native.Nat.{ℕ, _+_, _-_, _≤_, _<_}
 use native.Mathlib.Omega.{arith}
-use mathlib.Core.Path.{_≡_, refl, sym, ap, _∙_}
+use mathlib.Core.Path.{_≡_, ap, _∙_}
 use mathlib.Core.Bool.{Bool, true, false, cond}
-use mathlib.Core.List.{List, []}
+use mathlib.Core.List.{List}
 use mathlib.Core.Option.{Option, none, some}
 use lib.Dec.{ltb}
 use lib.ListN.{length, replicate, length-replicate}
 use Rattle.base.specs.Buffers.{startsWith}
-use Rattle.base.proofs.Buffers.{startsWith-none}
 use Rattle.oce_model.specs.Format.{longestImage}
 use Rattle.oce_model.specs.Refusals.{Refusal, refusal}
 use Rattle.oce_diag.specs.Diagnostics.{errors, warnings}
@@ -18,10 +17,7 @@ use Rattle.outcome.specs.Answer.{reportOf, reportSize, answerFor, answer, ifChe
 use Rattle.outcome.specs.declared.Answer.{Answer}
 use Rattle.outcome.specs.declared.Answer.the-variants.{Refused, Checked}
 use Rattle.printed.proofs.Row.{row-report}
-use Rattle.print_check.specs.Outcome.{longestReport, lentReport, isChecked, countOf, readLength}
-use Rattle.print_check.specs.declared.Input.{Input}
-use Rattle.print_check.specs.declared.Input.the-variants.{Bytes, Unreadable}
-use Rattle.printed.specs.Printed.{longestLine}
+use Rattle.print_check.specs.Outcome.{longestReport, lentReport, isChecked, countOf}
 use Rattle.printed.specs.Pieces.{Pieced, Row}
 use Rattle.printed.specs.declared.Piece.{Piece}
 use Rattle.field_lines.specs.Lines as listed
@@ -69,14 +65,8 @@ counted-row {e = e} {w = w} {b = b} r q = rw q at r
 
 -- ---- the answers
 
-pub is-refused : {a : Answer} {n at : ℕ} → a ≡ Refused n at → false ≡ isChecked a
-is-refused e = sym (ap isChecked e)
-
-pub is-checked : {a : Answer} {e w : ℕ} → a ≡ Checked e w → true ≡ isChecked a
-is-checked e = sym (ap isChecked e)
-
-pub checked-as : {s : List ℕ} {filled room : ℕ} {a : Answer} {r : Bool} → r ≡ isChecked a → a ≡ answer s filled room → room ≡ longestReport → r ≡ isChecked (answer s filled longestReport)
-checked-as {s} {filled} e q n = e ∙ ap isChecked q ∙ ap (λ (m : ℕ). isChecked (answer s filled m)) n
+pub checked-as : (s : List ℕ) (filled room : ℕ) {a : Answer} {r : Bool} → r ≡ isChecked a → a ≡ answer s filled room → room ≡ longestReport → r ≡ isChecked (answer s filled longestReport)
+checked-as s filled room e q n = e ∙ ap isChecked q ∙ ap (λ (m : ℕ). isChecked (answer s filled m)) n
 
 -- the report that is lent
 pub lent-long : length {A = ℕ} (replicate longestReport 0) ≡ longestReport

@@ -19,7 +19,7 @@ ghost use lib.ListN.{length};
 ghost use Rattle.numbers.specs.Bytes.{wordRange};
 ghost use Rattle.oce_model.specs.Format.{textTag, longestImage};
 ghost use Rattle.image_accept.specs.Layout.{Laid, Tabled};
-ghost use Rattle.outcome.specs.Answer.{answer, filledAfter};
+ghost use Rattle.outcome.specs.Answer.{answer, filledAfter, reportAfter};
 ghost use Rattle.printed.specs.Pieces.{Row};
 ghost use Rattle.print_check.specs.Outcome.{longestReport, lentReport, isChecked, countOf, readLength};
 
@@ -110,13 +110,22 @@ fn is_checked(answer: Answer) -> bool
     }
 }
 
+// The check, with what it leaves in both buffers.
+fn check_lent(image: &[u8], filled: &mut [u8], report: &mut [u8]) -> Answer
+    ensures answer { λ a. ⌜ a ≡ answer (now (image .entry)) (length (now (filled .entry))) (length (now (report .entry))) ⌝ }
+    ensures filled { λ _. ⌜ now (filled .exit) ≡ filledAfter (now (image .entry)) (now (filled .entry)) (now (report .entry)) ⌝ }
+    ensures report { λ _. ⌜ now (report .exit) ≡ reportAfter (now (image .entry)) (now (filled .entry)) (now (report .entry)) ⌝ }
+{
+    check(image, filled, report)
+}
+
 // Checks an image and prints its report; filled gets the filled image, where there is no refusal.
 pub fn print_check(fd: i32, image: &[u8], filled: &mut [u8]) -> Outcome
     ensures checked { λ r. ⌜ r .checked ≡ isChecked (answer (now (image .entry)) (length (now (filled .entry))) longestReport) ⌝ }
     ensures filled { λ _. ⌜ now (filled .exit) ≡ filledAfter (now (image .entry)) (now (filled .entry)) lentReport ⌝ }
 {
     let mut report = [0u8; LONGEST_REPORT];
-    let answer = check(image, filled, &mut report);
+    let answer = check_lent(image, filled, &mut report);
     Outcome {
         checked: is_checked(answer),
         printed: print_all(fd, image, &report, answer),

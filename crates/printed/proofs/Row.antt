@@ -2,7 +2,7 @@
 use Prim.Native.Nat.{ℕ, zero, suc, _+_, _*_, _<_, _≤_}
 use native.Mathlib.Nat.{mul-suc}
 use native.Mathlib.Omega.{arith}
-use mathlib.Core.Path.{_≡_, refl, sym, ap, _∙_}
+use mathlib.Core.Path.{_≡_, refl, _∙_}
 use mathlib.Core.Bool.{true}
 use mathlib.Core.List.{List, [], _∷_, _++_, append-assoc}
 use lib.ListN.{length, drop, length-append}
@@ -11,7 +11,7 @@ use borrow.Author.Tests.{le-leb}
 use Rattle.base.specs.Buffers.{startsWith}
 use Rattle.numbers.specs.Bytes.{byte, le, le16, leBytes}
 use Rattle.numbers.proofs.Bytes.{le-append-right}
-use Rattle.oce_model.specs.Format.{leadingBytes, fieldLengthAt}
+use Rattle.oce_model.specs.Format.{fieldLengthAt}
 use Rattle.oce_model.specs.Image.{fieldEnd}
 use Rattle.oce_diag.specs.Encoding.{diagnosticTag, diagnosticLength, diagnosticSize, diagnosticBytes, reportBytes}
 use Rattle.oce_diag.specs.declared.Diagnostic.{Diagnostic}

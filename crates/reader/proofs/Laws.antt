@@ -1,13 +1,12 @@
 -- Laws of `stepAt`, by what stands at the place.
 use Prim.Native.Nat.{ℕ, _+_, _<_, _≤_}
 use native.Mathlib.Omega.{arith}
-use mathlib.Core.Path.{_≡_, refl, sym, ap, _∙_}
-use mathlib.Core.Bool.{Bool, true, false, cond}
+use mathlib.Core.Path.{_≡_, sym, ap, _∙_}
+use mathlib.Core.Bool.{Bool, true, false}
 use mathlib.Core.List.{List}
 use lib.ListN.{length}
 use borrow.Author.Tests.{lt-leb}
-use Rattle.numbers.specs.Bytes.{byte, le16}
-use Rattle.oce_model.specs.Format.{leadingBytes, fieldLengthAt}
+use Rattle.oce_model.specs.Format.{leadingBytes}
 use Rattle.oce_model.specs.Image.{fieldEnd}
 use Rattle.image_framing.specs.Walk.{leadingAt}
 use Rattle.image_framing.specs.declared.Leading.{Leading}

@@ -1,5 +1,9 @@
 // Rule 1, the Rust's `check_arena_ids`: ids are numbers of records, and what they refer to exists.
 use image_accept::Layout;
+use image_records::block;
+use image_records::block_offset;
+use image_records::connector;
+use image_records::port;
 use oce_diag::Counted;
 use oce_diag::DiagCode;
 use oce_diag::Subject;
@@ -11,10 +15,6 @@ use oce_model::BLOCK_PORTS;
 use oce_model::BlockId;
 use oce_model::ConnectorId;
 use oce_model::PORT_LENGTH;
-use image_records::block;
-use image_records::block_offset;
-use image_records::connector;
-use image_records::port;
 ghost use mathlib.Core.Path.{_≡_};
 ghost use Prim.Native.Nat.{_+_, _*_, _<_, _≤_};
 ghost use lib.ListN.{length};

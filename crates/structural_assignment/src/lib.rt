@@ -1,6 +1,6 @@
 // Rule 3, the Rust's `check_single_assignment`: each input is driven by one connection, or is external.
 use image_accept::Layout;
-use structural_externals::is_external;
+use image_records::connector;
 use oce_diag::Counted;
 use oce_diag::DiagCode;
 use oce_diag::Subject;
@@ -9,7 +9,7 @@ use oce_diag::put_if;
 use oce_diag::subject_of;
 use oce_model::ConnectorId;
 use oce_model::DIR_IN;
-use image_records::connector;
+use structural_externals::is_external;
 ghost use mathlib.Core.Path.{_≡_};
 ghost use Prim.Native.Nat.{_+_, _*_, _<_, _≤_};
 ghost use lib.ListN.{length};
@@ -103,7 +103,17 @@ pub fn assignment_faults(
     }
     let id = c.id;
     let subject = subject_of(c.iri, id);
-    degree_faults(image, layout, degrees, externals, i, id, subject, report, counted)
+    degree_faults(
+        image,
+        layout,
+        degrees,
+        externals,
+        i,
+        id,
+        subject,
+        report,
+        counted,
+    )
 }
 
 // All connectors in turn; degrees and externals are as `in_degrees` and `list_externals` leave them.
@@ -122,7 +132,15 @@ pub fn check_single_assignment(
     let mut c = counted;
     let mut i = 0;
     while i < connectors.count {
-        c = assignment_faults(image, layout, degrees, externals, ConnectorId(i as u32), report, c);
+        c = assignment_faults(
+            image,
+            layout,
+            degrees,
+            externals,
+            ConnectorId(i as u32),
+            report,
+            c,
+        );
         i += 1;
     }
     c

@@ -2,10 +2,10 @@
 // the others stand sorted behind these. A column of 2 * h + 1 entries serves h external inputs: an entry for
 // each id below h, room for h others, and how many others there are.
 use image_accept::Layout;
+use image_records::external_input;
+use oce_model::MOST_EXTERNAL_INPUTS;
 use sorting::is_among;
 use sorting::sort;
-use oce_model::MOST_EXTERNAL_INPUTS;
-use image_records::external_input;
 ghost use mathlib.Core.Path.{_≡_};
 ghost use Prim.Native.Nat.{_+_, _<_, _≤_};
 ghost use lib.ListN.{length, getD};

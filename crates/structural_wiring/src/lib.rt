@@ -2,6 +2,10 @@
 // boundary output or a connection refers to exist, with the directions and types that it asks for.
 use image_accept::Layout;
 use image_attributes::attrs_kind;
+use image_records::boundary_output;
+use image_records::boundary_output_attrs;
+use image_records::connection;
+use image_records::connector;
 use oce_diag::Counted;
 use oce_diag::DiagCode;
 use oce_diag::Subject;
@@ -13,10 +17,6 @@ use oce_model::Connection;
 use oce_model::Connector;
 use oce_model::ConnectorId;
 use oce_model::DIR_IN;
-use image_records::boundary_output;
-use image_records::boundary_output_attrs;
-use image_records::connection;
-use image_records::connector;
 ghost use mathlib.Core.Path.{_≡_};
 ghost use mathlib.Core.Bool.{_&&_};
 ghost use Prim.Native.Nat.{_+_, _*_, _<_, _≤_};
@@ -196,15 +196,7 @@ pub fn connection_faults(
     let c = connection(image, layout, k);
     let connectors = layout.connectors;
     if in_range(c, connectors.count) {
-        return end_faults(
-            image,
-            layout,
-            k as u32,
-            c.from,
-            c.to,
-            report,
-            counted,
-        );
+        return end_faults(image, layout, k as u32, c.from, c.to, report, counted);
     }
     let outside = error(
         DiagCode::MalformedDocument,

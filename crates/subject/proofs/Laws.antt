@@ -120,21 +120,6 @@ module _ (s xs : List ℕ) (kind n : ℕ) {a : Acceptance} (e : a ≡ acceptance
     unfolding part
     accepted-read q = rw (kept (partOf s xs kind n)) q
 
--- ---- the text of a subject of an accepted image
-
-module _ {s : List ℕ} {l : Layout} (h : Laid s l) (n : ℕ) where
-  pub text-subject : subjectText s textSubjectKind n ≡ text (modelOf s) n
-  unfolding subjectText
-  text-subject = rw (h .accepted)
-
-  pub connector-subject : subjectText s connectorSubjectKind n ≡ labelled connectorSubjectKind n
-  unfolding subjectText
-  connector-subject = rw (h .accepted)
-
-  pub block-subject : subjectText s blockSubjectKind n ≡ labelled blockSubjectKind n
-  unfolding subjectText
-  block-subject = rw (h .accepted)
-
 -- ---- reading after writing
 
 -- a label with an id has at most 20 bytes

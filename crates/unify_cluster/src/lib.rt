@@ -109,7 +109,7 @@ fn unify_detail<'a>(
     image: &'a [u8],
     layout: Layout,
     texts: &'a [usize],
-    slot_count: usize,
+    slots: usize,
     table: &mut [u64],
     members: &[usize],
     root: ConnectorId,
@@ -118,15 +118,15 @@ fn unify_detail<'a>(
     report: &mut [u8],
     counted: Counted,
 ) -> Counted
-    requires { ⌜ Ready (now image) layout (now texts) «slot_count» (now table) (now members) × (root .0 < layout .connectors .count) × (detail ≤ displayDetail) × Countable 1 counted
-        × Unseen detail «slot_count» (now table) (now members) (found .real) (found .integer) ⌝ }
-    ensures { λ c. ⌜ Detailed (modelOf (now (image .entry))) (root .0) detail «slot_count» (now (members .entry)) (now (table .entry)) (now (table .exit))
+    requires { ⌜ Ready (now image) layout (now texts) slots (now table) (now members) × (root .0 < layout .connectors .count) × (detail ≤ displayDetail) × Countable 1 counted
+        × Unseen detail slots (now table) (now members) (found .real) (found .integer) ⌝ }
+    ensures { λ c. ⌜ Detailed (modelOf (now (image .entry))) (root .0) detail slots (now (members .entry)) (now (table .entry)) (now (table .exit))
         (now (report .entry)) counted (now (report .exit)) c ⌝ }
 {
     if !is_seen(found, detail) {
         return counted;
     }
-    if decide_and_apply(image, layout, texts, slot_count, table, members, detail) {
+    if decide_and_apply(image, layout, texts, slots, table, members, detail) {
         return tell_conflict(image, layout, root, detail, report, counted);
     }
     counted
@@ -137,7 +137,7 @@ fn details<'a>(
     image: &'a [u8],
     layout: Layout,
     texts: &'a [usize],
-    slot_count: usize,
+    slots: usize,
     table: &mut [u64],
     members: &[usize],
     root: ConnectorId,
@@ -145,12 +145,12 @@ fn details<'a>(
     report: &mut [u8],
     counted: Counted,
 ) -> Counted
-    requires { ⌜ Ready (now image) layout (now texts) «slot_count» (now table) (now members) × (root .0 < layout .connectors .count) × Countable unifiedDetails counted
-        × Sees (view «slot_count» (now table)) (now members) (found .real) (found .integer) (length (now members)) ⌝ }
-    ensures { λ c. ⌜ Details (modelOf (now (image .entry))) (root .0) «slot_count» (now (members .entry)) (now (table .entry)) (now (table .exit))
+    requires { ⌜ Ready (now image) layout (now texts) slots (now table) (now members) × (root .0 < layout .connectors .count) × Countable unifiedDetails counted
+        × Sees (view slots (now table)) (now members) (found .real) (found .integer) (length (now members)) ⌝ }
+    ensures { λ c. ⌜ Details (modelOf (now (image .entry))) (root .0) slots (now (members .entry)) (now (table .entry)) (now (table .exit))
         (now (report .entry)) counted (now (report .exit)) c unifiedDetails
-        × Ready (now (image .entry)) layout (now (texts .entry)) «slot_count» (now (table .exit)) (now (members .entry)) × Adds unifiedDetails counted c
-        × Unseen displayDetail «slot_count» (now (table .exit)) (now (members .entry)) (found .real) (found .integer) ⌝ }
+        × Ready (now (image .entry)) layout (now (texts .entry)) slots (now (table .exit)) (now (members .entry)) × Adds unifiedDetails counted c
+        × Unseen displayDetail slots (now (table .exit)) (now (members .entry)) (found .real) (found .integer) ⌝ }
 {
     let mut c = counted;
     let mut i = 0;
@@ -159,7 +159,7 @@ fn details<'a>(
             image,
             layout,
             texts,
-            slot_count,
+            slots,
             table,
             members,
             root,
@@ -178,7 +178,7 @@ fn warn_display_unit_divergence<'a>(
     image: &'a [u8],
     layout: Layout,
     texts: &'a [usize],
-    slot_count: usize,
+    slots: usize,
     table: &[u64],
     members: &[usize],
     root: ConnectorId,
@@ -186,22 +186,14 @@ fn warn_display_unit_divergence<'a>(
     report: &mut [u8],
     counted: Counted,
 ) -> Counted
-    requires { ⌜ Ready (now image) layout (now texts) «slot_count» (now table) (now members) × (root .0 < layout .connectors .count) × Countable 1 counted
-        × Unseen displayDetail «slot_count» (now table) (now members) (found .real) (found .integer) ⌝ }
-    ensures { λ c. ⌜ Displayed (modelOf (now (image .entry))) (root .0) «slot_count» (now (members .entry)) (now (table .entry)) (now (report .entry)) counted (now (report .exit)) c ⌝ }
+    requires { ⌜ Ready (now image) layout (now texts) slots (now table) (now members) × (root .0 < layout .connectors .count) × Countable 1 counted
+        × Unseen displayDetail slots (now table) (now members) (found .real) (found .integer) ⌝ }
+    ensures { λ c. ⌜ Displayed (modelOf (now (image .entry))) (root .0) slots (now (members .entry)) (now (table .entry)) (now (report .entry)) counted (now (report .exit)) c ⌝ }
 {
     if !is_seen(found, DISPLAY_DETAIL) {
         return counted;
     }
-    if diverges(
-        image,
-        layout,
-        texts,
-        slot_count,
-        table,
-        members,
-        DISPLAY_DETAIL,
-    ) {
+    if diverges(image, layout, texts, slots, table, members, DISPLAY_DETAIL) {
         return tell_divergence(image, layout, root, report, counted);
     }
     counted
@@ -212,7 +204,7 @@ fn all_details<'a>(
     image: &'a [u8],
     layout: Layout,
     texts: &'a [usize],
-    slot_count: usize,
+    slots: usize,
     table: &mut [u64],
     members: &[usize],
     root: ConnectorId,
@@ -220,16 +212,16 @@ fn all_details<'a>(
     report: &mut [u8],
     counted: Counted,
 ) -> Counted
-    requires { ⌜ Ready (now image) layout (now texts) «slot_count» (now table) (now members) × (root .0 < layout .connectors .count) × Countable mostClusterFaults counted
-        × Sees (view «slot_count» (now table)) (now members) (found .real) (found .integer) (length (now members)) ⌝ }
-    ensures { λ c. ⌜ Clustered (modelOf (now (image .entry))) (root .0) «slot_count» (now (members .entry)) (now (table .entry)) (now (table .exit))
+    requires { ⌜ Ready (now image) layout (now texts) slots (now table) (now members) × (root .0 < layout .connectors .count) × Countable mostClusterFaults counted
+        × Sees (view slots (now table)) (now members) (found .real) (found .integer) (length (now members)) ⌝ }
+    ensures { λ c. ⌜ Clustered (modelOf (now (image .entry))) (root .0) slots (now (members .entry)) (now (table .entry)) (now (table .exit))
         (now (report .entry)) counted (now (report .exit)) c ⌝ }
 {
     let c = details(
         image,
         layout,
         texts,
-        slot_count,
+        slots,
         table,
         members,
         root,
@@ -241,7 +233,7 @@ fn all_details<'a>(
         image,
         layout,
         texts,
-        slot_count,
+        slots,
         table,
         members,
         root,
@@ -256,18 +248,18 @@ pub fn cluster<'a>(
     image: &'a [u8],
     layout: Layout,
     texts: &'a [usize],
-    slot_count: usize,
+    slots: usize,
     table: &mut [u64],
     members: &[usize],
     root: ConnectorId,
     report: &mut [u8],
     counted: Counted,
 ) -> Counted
-    requires { ⌜ Ready (now image) layout (now texts) «slot_count» (now table) (now members) × (root .0 < layout .connectors .count) × Countable mostClusterFaults counted ⌝ }
-    ensures { λ c. ⌜ Clustered (modelOf (now (image .entry))) (root .0) «slot_count» (now (members .entry)) (now (table .entry)) (now (table .exit))
+    requires { ⌜ Ready (now image) layout (now texts) slots (now table) (now members) × (root .0 < layout .connectors .count) × Countable mostClusterFaults counted ⌝ }
+    ensures { λ c. ⌜ Clustered (modelOf (now (image .entry))) (root .0) slots (now (members .entry)) (now (table .entry)) (now (table .exit))
         (now (report .entry)) counted (now (report .exit)) c ⌝ }
 {
-    let found = seen_in(slot_count, table, members);
+    let found = seen_in(slots, table, members);
     if sees_nothing(found) {
         return counted;
     }
@@ -275,7 +267,7 @@ pub fn cluster<'a>(
         image,
         layout,
         texts,
-        slot_count,
+        slots,
         table,
         members,
         root,

@@ -29,15 +29,15 @@ fn unify_root<'a>(
     texts: &'a [usize],
     head: &[usize],
     next: &[usize],
-    slot_count: usize,
+    slots: usize,
     table: &mut [u64],
     members: &mut [usize],
     root: ConnectorId,
     report: &mut [u8],
     counted: Counted,
 ) -> Counted
-    requires { ⌜ Stage (now image) layout (now texts) (now head) (now next) «slot_count» (now table) (now members) × (root .0 < layout .connectors .count) × Countable mostClusterFaults counted ⌝ }
-    ensures { λ c. ⌜ Rooted (modelOf (now (image .entry))) (root .0) «slot_count» (now (table .entry)) (now (table .exit)) (now (report .entry)) counted (now (report .exit)) c ⌝ }
+    requires { ⌜ Stage (now image) layout (now texts) (now head) (now next) slots (now table) (now members) × (root .0 < layout .connectors .count) × Countable mostClusterFaults counted ⌝ }
+    ensures { λ c. ⌜ Rooted (modelOf (now (image .entry))) (root .0) slots (now (table .entry)) (now (table .exit)) (now (report .entry)) counted (now (report .exit)) c ⌝ }
 {
     let c = gather(image, layout, head, next, root, members);
     if c < 2 {
@@ -47,7 +47,7 @@ fn unify_root<'a>(
         image,
         layout,
         texts,
-        slot_count,
+        slots,
         table,
         &members[0..c],
         root,
@@ -63,15 +63,15 @@ fn unify_roots<'a>(
     texts: &'a [usize],
     head: &[usize],
     next: &[usize],
-    slot_count: usize,
+    slots: usize,
     table: &mut [u64],
     members: &mut [usize],
     report: &mut [u8],
     counted: Counted,
 ) -> Counted
-    requires { ⌜ Stage (now image) layout (now texts) (now head) (now next) «slot_count» (now table) (now members) × Read (modelOf (now image)) «slot_count» (now table) × Countable mostRootsFaults counted ⌝ }
-    ensures { λ c. ⌜ AllRooted (modelOf (now (image .entry))) «slot_count» (now (table .exit)) (now (report .entry)) counted (now (report .exit)) c
-        × Stage (now (image .entry)) layout (now (texts .entry)) (now (head .entry)) (now (next .entry)) «slot_count» (now (table .exit)) (now (members .exit)) × Adds mostRootsFaults counted c ⌝ }
+    requires { ⌜ Stage (now image) layout (now texts) (now head) (now next) slots (now table) (now members) × Read (modelOf (now image)) slots (now table) × Countable mostRootsFaults counted ⌝ }
+    ensures { λ c. ⌜ AllRooted (modelOf (now (image .entry))) slots (now (table .exit)) (now (report .entry)) counted (now (report .exit)) c
+        × Stage (now (image .entry)) layout (now (texts .entry)) (now (head .entry)) (now (next .entry)) slots (now (table .exit)) (now (members .exit)) × Adds mostRootsFaults counted c ⌝ }
 {
     let n = layout.connectors.count;
     let mut c = counted;
@@ -83,7 +83,7 @@ fn unify_roots<'a>(
             texts,
             head,
             next,
-            slot_count,
+            slots,
             table,
             members,
             ConnectorId(r as u32),
@@ -121,14 +121,14 @@ fn all_roots<'a>(
     texts: &'a [usize],
     head: &[usize],
     next: &[usize],
-    slot_count: usize,
+    slots: usize,
     table: &mut [u64],
     members: &mut [usize],
     report: &mut [u8],
     counted: Counted,
 ) -> Counted
-    requires { ⌜ Stage (now image) layout (now texts) (now head) (now next) «slot_count» (now table) (now members) × Read (modelOf (now image)) «slot_count» (now table) × Countable mostUnifiedFaults counted ⌝ }
-    ensures { λ c. ⌜ Unified (modelOf (now (image .entry))) «slot_count» (now (table .exit)) (now (report .entry)) counted (now (report .exit)) c ⌝ }
+    requires { ⌜ Stage (now image) layout (now texts) (now head) (now next) slots (now table) (now members) × Read (modelOf (now image)) slots (now table) × Countable mostUnifiedFaults counted ⌝ }
+    ensures { λ c. ⌜ Unified (modelOf (now (image .entry))) slots (now (table .exit)) (now (report .entry)) counted (now (report .exit)) c ⌝ }
 {
     let c = unify_roots(
         image,
@@ -136,14 +136,14 @@ fn all_roots<'a>(
         texts,
         head,
         next,
-        slot_count,
+        slots,
         table,
         members,
         report,
         counted,
     );
     if c.errors == 0 {
-        return check_propagated_clusters(image, layout, head, slot_count, table, report, c);
+        return check_propagated_clusters(image, layout, head, slots, table, report, c);
     }
     c
 }
@@ -154,13 +154,13 @@ fn few_linked_roots<'a>(
     layout: Layout,
     texts: &'a [usize],
     degrees: &[u32],
-    slot_count: usize,
+    slots: usize,
     table: &mut [u64],
     report: &mut [u8],
     counted: Counted,
 ) -> Counted
-    requires { ⌜ Laid (now image) layout × Tabled textTag (now image) (now texts) × Degrees (modelOf (now image)) (now degrees) × Read (modelOf (now image)) «slot_count» (now table) × Countable mostUnifiedFaults counted × (layout .connectors .count ≤ fewConnectors) × (layout .connections .count + layout .outputs .count ≤ fewLinks) ⌝ }
-    ensures { λ c. ⌜ Unified (modelOf (now (image .entry))) «slot_count» (now (table .exit)) (now (report .entry)) counted (now (report .exit)) c ⌝ }
+    requires { ⌜ Laid (now image) layout × Tabled textTag (now image) (now texts) × Degrees (modelOf (now image)) (now degrees) × Read (modelOf (now image)) slots (now table) × Countable mostUnifiedFaults counted × (layout .connectors .count ≤ fewConnectors) × (layout .connections .count + layout .outputs .count ≤ fewLinks) ⌝ }
+    ensures { λ c. ⌜ Unified (modelOf (now (image .entry))) slots (now (table .exit)) (now (report .entry)) counted (now (report .exit)) c ⌝ }
 {
     let mut head = [NO_LINK; FEW_CONNECTORS];
     let mut next = [0usize; FEW_LINKS];
@@ -172,7 +172,7 @@ fn few_linked_roots<'a>(
         texts,
         &head,
         &next,
-        slot_count,
+        slots,
         table,
         &mut members,
         report,
@@ -186,13 +186,13 @@ fn many_linked_roots<'a>(
     layout: Layout,
     texts: &'a [usize],
     degrees: &[u32],
-    slot_count: usize,
+    slots: usize,
     table: &mut [u64],
     report: &mut [u8],
     counted: Counted,
 ) -> Counted
-    requires { ⌜ Laid (now image) layout × Tabled textTag (now image) (now texts) × Degrees (modelOf (now image)) (now degrees) × Read (modelOf (now image)) «slot_count» (now table) × Countable mostUnifiedFaults counted ⌝ }
-    ensures { λ c. ⌜ Unified (modelOf (now (image .entry))) «slot_count» (now (table .exit)) (now (report .entry)) counted (now (report .exit)) c ⌝ }
+    requires { ⌜ Laid (now image) layout × Tabled textTag (now image) (now texts) × Degrees (modelOf (now image)) (now degrees) × Read (modelOf (now image)) slots (now table) × Countable mostUnifiedFaults counted ⌝ }
+    ensures { λ c. ⌜ Unified (modelOf (now (image .entry))) slots (now (table .exit)) (now (report .entry)) counted (now (report .exit)) c ⌝ }
 {
     let mut head = [NO_LINK; MOST_CONNECTORS];
     let mut next = [0usize; MOST_LINKS];
@@ -204,7 +204,7 @@ fn many_linked_roots<'a>(
         texts,
         &head,
         &next,
-        slot_count,
+        slots,
         table,
         &mut members,
         report,
@@ -218,38 +218,20 @@ fn linked_roots<'a>(
     layout: Layout,
     texts: &'a [usize],
     degrees: &[u32],
-    slot_count: usize,
+    slots: usize,
     table: &mut [u64],
     report: &mut [u8],
     counted: Counted,
 ) -> Counted
-    requires { ⌜ Laid (now image) layout × Tabled textTag (now image) (now texts) × Degrees (modelOf (now image)) (now degrees) × Read (modelOf (now image)) «slot_count» (now table) × Countable mostUnifiedFaults counted ⌝ }
-    ensures { λ c. ⌜ Unified (modelOf (now (image .entry))) «slot_count» (now (table .exit)) (now (report .entry)) counted (now (report .exit)) c ⌝ }
+    requires { ⌜ Laid (now image) layout × Tabled textTag (now image) (now texts) × Degrees (modelOf (now image)) (now degrees) × Read (modelOf (now image)) slots (now table) × Countable mostUnifiedFaults counted ⌝ }
+    ensures { λ c. ⌜ Unified (modelOf (now (image .entry))) slots (now (table .exit)) (now (report .entry)) counted (now (report .exit)) c ⌝ }
 {
     if layout.connectors.count <= FEW_CONNECTORS {
         if layout.connections.count + layout.outputs.count <= FEW_LINKS {
-            return few_linked_roots(
-                image,
-                layout,
-                texts,
-                degrees,
-                slot_count,
-                table,
-                report,
-                counted,
-            );
+            return few_linked_roots(image, layout, texts, degrees, slots, table, report, counted);
         }
     }
-    many_linked_roots(
-        image,
-        layout,
-        texts,
-        degrees,
-        slot_count,
-        table,
-        report,
-        counted,
-    )
+    many_linked_roots(image, layout, texts, degrees, slots, table, report, counted)
 }
 
 // All of rule 6.
@@ -265,15 +247,6 @@ pub fn unify_clusters<'a>(
     requires { ⌜ Laid (now image) layout × Tabled textTag (now image) (now texts) × Degrees (modelOf (now image)) (now degrees) × Room (slotCount (modelOf (now image))) (now table) × Countable mostUnifiedFaults counted ⌝ }
     ensures { λ c. ⌜ Unified (modelOf (now (image .entry))) (slotCount (modelOf (now (image .entry)))) (now (table .exit)) (now (report .entry)) counted (now (report .exit)) c ⌝ }
 {
-    let slot_count = load_slots(image, layout, table);
-    linked_roots(
-        image,
-        layout,
-        texts,
-        degrees,
-        slot_count,
-        table,
-        report,
-        counted,
-    )
+    let slots = load_slots(image, layout, table);
+    linked_roots(image, layout, texts, degrees, slots, table, report, counted)
 }

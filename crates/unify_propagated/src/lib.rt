@@ -35,16 +35,16 @@ const RULE: u8 = 6;
 const CROSSED_DETAIL: u8 = 8;
 
 // The range of slot j, with the defaults of the image's head: the Rust's `Bounds::of`.
-fn slot_range(image: &[u8], layout: Layout, slot_count: usize, table: &[u64], j: usize) -> Range
-    requires { ⌜ Laid (now image) layout × Room «slot_count» (now table) × (j < «slot_count») ⌝ }
-    ensures { λ r. ⌜ r ≡ rangeOf (modelOf (now (image .entry))) (slot (view «slot_count» (now (table .entry))) j) ⌝ }
+fn slot_range(image: &[u8], layout: Layout, slots: usize, table: &[u64], j: usize) -> Range
+    requires { ⌜ Laid (now image) layout × Room slots (now table) × (j < slots) ⌝ }
+    ensures { λ r. ⌜ r ≡ rangeOf (modelOf (now (image .entry))) (slot (view slots (now (table .entry))) j) ⌝ }
 {
-    let kind = kind_at(slot_count, table, j);
+    let kind = kind_at(slots, table, j);
     if kind == REAL_KIND {
-        return real_range(real_at(slot_count, table, j));
+        return real_range(real_at(slots, table, j));
     }
     if kind == INTEGER_KIND {
-        return integer_range(int_at(slot_count, table, j), layout.min, layout.max);
+        return integer_range(int_at(slots, table, j), layout.min, layout.max);
     }
     Range::Absent
 }
@@ -72,21 +72,21 @@ fn check_propagated_cluster(
     image: &[u8],
     layout: Layout,
     head: &[usize],
-    slot_count: usize,
+    slots: usize,
     table: &[u64],
     root: ConnectorId,
     report: &mut [u8],
     counted: Counted,
 ) -> Counted
-    requires { ⌜ Stage (now image) layout (now head) «slot_count» (now table) × (root .0 < layout .connectors .count) × Countable 1 counted ⌝ }
-    ensures { λ c. ⌜ Tested (modelOf (now (image .entry))) (root .0) «slot_count» (now (table .entry)) (now (report .entry)) counted (now (report .exit)) c ⌝ }
+    requires { ⌜ Stage (now image) layout (now head) slots (now table) × (root .0 < layout .connectors .count) × Countable 1 counted ⌝ }
+    ensures { λ c. ⌜ Tested (modelOf (now (image .entry))) (root .0) slots (now (table .entry)) (now (report .entry)) counted (now (report .exit)) c ⌝ }
 {
     let links = layout.connections.count + layout.outputs.count;
     let j = root.0 as usize;
     if links <= head[j] {
         return counted;
     }
-    if is_crossed(slot_range(image, layout, slot_count, table, j)) {
+    if is_crossed(slot_range(image, layout, slots, table, j)) {
         return tell_crossed(image, layout, root, report, counted);
     }
     counted
@@ -98,12 +98,12 @@ pub fn check_propagated_clusters(
     image: &[u8],
     layout: Layout,
     head: &[usize],
-    slot_count: usize,
+    slots: usize,
     table: &[u64],
     report: &mut [u8],
     counted: Counted,
 ) -> Counted
-    requires { ⌜ Stage (now image) layout (now head) «slot_count» (now table) × (view «slot_count» (now table) ≡ filledSlots (modelOf (now image))) × Countable mostConnectors counted ⌝ }
+    requires { ⌜ Stage (now image) layout (now head) slots (now table) × (view slots (now table) ≡ filledSlots (modelOf (now image))) × Countable mostConnectors counted ⌝ }
     ensures { λ c. ⌜ Propagated (modelOf (now (image .entry))) (now (report .entry)) counted (now (report .exit)) c ⌝ }
 {
     let n = layout.connectors.count;
@@ -114,7 +114,7 @@ pub fn check_propagated_clusters(
             image,
             layout,
             head,
-            slot_count,
+            slots,
             table,
             ConnectorId(r as u32),
             report,

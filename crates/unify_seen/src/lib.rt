@@ -33,17 +33,17 @@ fn take_in(had: u64, wanted: usize, kind: usize, marks: u64) -> u64
 }
 
 // What the members declare.
-pub fn seen_in(slot_count: usize, table: &[u64], members: &[usize]) -> Seen
-    requires { ⌜ Room «slot_count» (now table) × Inside «slot_count» (now members) ⌝ }
-    ensures { λ r. ⌜ Sees (view «slot_count» (now (table .entry))) (now (members .entry)) (r .real) (r .integer) (length (now (members .entry))) ⌝ }
+pub fn seen_in(slots: usize, table: &[u64], members: &[usize]) -> Seen
+    requires { ⌜ Room slots (now table) × Inside slots (now members) ⌝ }
+    ensures { λ r. ⌜ Sees (view slots (now (table .entry))) (now (members .entry)) (r .real) (r .integer) (length (now (members .entry))) ⌝ }
 {
     let mut real = 0u64;
     let mut integer = 0u64;
     let mut i = 0;
     while i < members.len() {
         let j = members[i];
-        let kind = kind_at(slot_count, table, j);
-        let marks = marks_at(slot_count, table, j);
+        let kind = kind_at(slots, table, j);
+        let marks = marks_at(slots, table, j);
         real = take_in(real, REAL_KIND, kind, marks);
         integer = take_in(integer, INTEGER_KIND, kind, marks);
         i += 1;

@@ -24,14 +24,14 @@ pub struct First {
     pub value: u64,
 }
 
-fn first_declared(slot_count: usize, table: &[u64], members: &[usize], detail: usize) -> First
-    requires { ⌜ Room «slot_count» (now table) × Inside «slot_count» (now members) × (detail ≤ displayDetail) ⌝ }
-    ensures { λ r. ⌜ FirstOf detail (view «slot_count» (now (table .entry))) (now (members .entry)) (r .at) (r .value) ⌝ }
+fn first_declared(slots: usize, table: &[u64], members: &[usize], detail: usize) -> First
+    requires { ⌜ Room slots (now table) × Inside slots (now members) × (detail ≤ displayDetail) ⌝ }
+    ensures { λ r. ⌜ FirstOf detail (view slots (now (table .entry))) (now (members .entry)) (r .at) (r .value) ⌝ }
 {
     let mut i = 0;
     while i < members.len() {
         let j = members[i];
-        let given = declared_at(slot_count, table, j, detail);
+        let given = declared_at(slots, table, j, detail);
         if given.set {
             return First {
                 at: i,
@@ -66,16 +66,16 @@ fn member_agrees<'a>(
     image: &'a [u8],
     layout: Layout,
     texts: &'a [usize],
-    slot_count: usize,
+    slots: usize,
     table: &[u64],
     j: usize,
     detail: usize,
     v: u64,
 ) -> bool
-    requires { ⌜ Laid (now image) layout × Tabled textTag (now image) (now texts) × Room «slot_count» (now table) × (j < «slot_count») × (detail ≤ displayDetail) ⌝ }
-    ensures { λ r. ⌜ Agrees (modelOf (now (image .entry))) detail v (view «slot_count» (now (table .entry))) j r ⌝ }
+    requires { ⌜ Laid (now image) layout × Tabled textTag (now image) (now texts) × Room slots (now table) × (j < slots) × (detail ≤ displayDetail) ⌝ }
+    ensures { λ r. ⌜ Agrees (modelOf (now (image .entry))) detail v (view slots (now (table .entry))) j r ⌝ }
 {
-    let given = declared_at(slot_count, table, j, detail);
+    let given = declared_at(slots, table, j, detail);
     if given.set {
         return agrees(image, layout, texts, detail, v, given.value);
     }
@@ -87,20 +87,20 @@ fn all_agree<'a>(
     image: &'a [u8],
     layout: Layout,
     texts: &'a [usize],
-    slot_count: usize,
+    slots: usize,
     table: &[u64],
     members: &[usize],
     from: usize,
     detail: usize,
     v: u64,
 ) -> bool
-    requires { ⌜ Ready (now image) layout (now texts) «slot_count» (now table) (now members) × (from ≤ length (now members)) × (detail ≤ displayDetail) ⌝ }
-    ensures { λ r. ⌜ r ≡ all (agree (modelOf (now (image .entry))) detail v) (declared detail (view «slot_count» (now (table .entry))) (drop from (now (members .entry)))) ⌝ }
+    requires { ⌜ Ready (now image) layout (now texts) slots (now table) (now members) × (from ≤ length (now members)) × (detail ≤ displayDetail) ⌝ }
+    ensures { λ r. ⌜ r ≡ all (agree (modelOf (now (image .entry))) detail v) (declared detail (view slots (now (table .entry))) (drop from (now (members .entry)))) ⌝ }
 {
     let mut i = from;
     while i < members.len() {
         let j = members[i];
-        if member_agrees(image, layout, texts, slot_count, table, j, detail, v) {
+        if member_agrees(image, layout, texts, slots, table, j, detail, v) {
             i += 1;
         } else {
             return false;
@@ -110,29 +110,22 @@ fn all_agree<'a>(
 }
 
 // Member i takes v, where it is of the kind and declares nothing.
-fn put_member(
-    slot_count: usize,
-    table: &mut [u64],
-    members: &[usize],
-    i: usize,
-    detail: usize,
-    v: u64,
-)
-    requires { ⌜ Room «slot_count» (now table) × Inside «slot_count» (now members) × (i < length (now members)) × (detail ≤ displayDetail) ⌝ }
-    ensures { λ _. ⌜ PutOne detail v «slot_count» (getD (now (members .entry)) i 0) (now (table .entry)) (now (table .exit)) ⌝ }
+fn put_member(slots: usize, table: &mut [u64], members: &[usize], i: usize, detail: usize, v: u64)
+    requires { ⌜ Room slots (now table) × Inside slots (now members) × (i < length (now members)) × (detail ≤ displayDetail) ⌝ }
+    ensures { λ _. ⌜ PutOne detail v slots (getD (now (members .entry)) i 0) (now (table .entry)) (now (table .exit)) ⌝ }
 {
     let j = members[i];
-    put_one(slot_count, table, j, detail, v);
+    put_one(slots, table, j, detail, v);
 }
 
 // Each unset member takes v.
-fn put_all(slot_count: usize, table: &mut [u64], members: &[usize], detail: usize, v: u64)
-    requires { ⌜ Room «slot_count» (now table) × Inside «slot_count» (now members) × (detail ≤ displayDetail) ⌝ }
-    ensures { λ _. ⌜ PutAll detail v «slot_count» (now (members .entry)) (now (table .entry)) (now (table .exit)) ⌝ }
+fn put_all(slots: usize, table: &mut [u64], members: &[usize], detail: usize, v: u64)
+    requires { ⌜ Room slots (now table) × Inside slots (now members) × (detail ≤ displayDetail) ⌝ }
+    ensures { λ _. ⌜ PutAll detail v slots (now (members .entry)) (now (table .entry)) (now (table .exit)) ⌝ }
 {
     let mut i = 0;
     while i < members.len() {
-        put_member(slot_count, table, members, i, detail, v);
+        put_member(slots, table, members, i, detail, v);
         i += 1;
     }
 }
@@ -142,15 +135,15 @@ pub fn decide_and_apply<'a>(
     image: &'a [u8],
     layout: Layout,
     texts: &'a [usize],
-    slot_count: usize,
+    slots: usize,
     table: &mut [u64],
     members: &[usize],
     detail: usize,
 ) -> bool
-    requires { ⌜ Ready (now image) layout (now texts) «slot_count» (now table) (now members) × (detail ≤ displayDetail) ⌝ }
-    ensures { λ r. ⌜ Settled (modelOf (now (image .entry))) detail «slot_count» (now (members .entry)) (now (table .entry)) (now (table .exit)) r ⌝ }
+    requires { ⌜ Ready (now image) layout (now texts) slots (now table) (now members) × (detail ≤ displayDetail) ⌝ }
+    ensures { λ r. ⌜ Settled (modelOf (now (image .entry))) detail slots (now (members .entry)) (now (table .entry)) (now (table .exit)) r ⌝ }
 {
-    let first = first_declared(slot_count, table, members, detail);
+    let first = first_declared(slots, table, members, detail);
     let at = first.at;
     if members.len() <= at {
         return false;
@@ -160,14 +153,14 @@ pub fn decide_and_apply<'a>(
         image,
         layout,
         texts,
-        slot_count,
+        slots,
         table,
         members,
         at + 1,
         detail,
         v,
     ) {
-        put_all(slot_count, table, members, detail, v);
+        put_all(slots, table, members, detail, v);
         return false;
     }
     true
@@ -178,15 +171,15 @@ pub fn diverges<'a>(
     image: &'a [u8],
     layout: Layout,
     texts: &'a [usize],
-    slot_count: usize,
+    slots: usize,
     table: &[u64],
     members: &[usize],
     detail: usize,
 ) -> bool
-    requires { ⌜ Ready (now image) layout (now texts) «slot_count» (now table) (now members) × (detail ≤ displayDetail) ⌝ }
-    ensures { λ r. ⌜ r ≡ conflict (modelOf (now (image .entry))) detail (declared detail (view «slot_count» (now (table .entry))) (now (members .entry))) ⌝ }
+    requires { ⌜ Ready (now image) layout (now texts) slots (now table) (now members) × (detail ≤ displayDetail) ⌝ }
+    ensures { λ r. ⌜ r ≡ conflict (modelOf (now (image .entry))) detail (declared detail (view slots (now (table .entry))) (now (members .entry))) ⌝ }
 {
-    let first = first_declared(slot_count, table, members, detail);
+    let first = first_declared(slots, table, members, detail);
     let at = first.at;
     if members.len() <= at {
         return false;
@@ -196,7 +189,7 @@ pub fn diverges<'a>(
         image,
         layout,
         texts,
-        slot_count,
+        slots,
         table,
         members,
         at + 1,

@@ -116,69 +116,69 @@ fn is_declared(kind: usize, marks: u64, detail: usize) -> bool
 // ---- one slot
 
 // Slot j's kind.
-pub fn kind_at(slot_count: usize, table: &[u64], j: usize) -> usize
-    requires { ⌜ Room «slot_count» (now table) × (j < «slot_count») ⌝ }
-    ensures { λ r. ⌜ r ≡ slot (view «slot_count» (now (table .entry))) j .kind ⌝ }
+pub fn kind_at(slots: usize, table: &[u64], j: usize) -> usize
+    requires { ⌜ Room slots (now table) × (j < slots) ⌝ }
+    ensures { λ r. ⌜ r ≡ slot (view slots (now (table .entry))) j .kind ⌝ }
 {
     table[WIDTH * j + KIND_PLACE] as usize
 }
 
 // Slot j's marks.
-pub fn marks_at(slot_count: usize, table: &[u64], j: usize) -> u64
-    requires { ⌜ Room «slot_count» (now table) × (j < «slot_count») ⌝ }
-    ensures { λ r. ⌜ r ≡ slot (view «slot_count» (now (table .entry))) j .marks ⌝ }
+pub fn marks_at(slots: usize, table: &[u64], j: usize) -> u64
+    requires { ⌜ Room slots (now table) × (j < slots) ⌝ }
+    ensures { λ r. ⌜ r ≡ slot (view slots (now (table .entry))) j .marks ⌝ }
 {
     table[WIDTH * j + MARKS_PLACE]
 }
 
 // Slot j's number under bit p.
-pub fn number(slot_count: usize, table: &[u64], j: usize, p: usize) -> u64
-    requires { ⌜ Room «slot_count» (now table) × (j < «slot_count») × (p < numberCount) ⌝ }
-    ensures { λ r. ⌜ r ≡ num (slot (view «slot_count» (now (table .entry))) j) p ⌝ }
+pub fn number(slots: usize, table: &[u64], j: usize, p: usize) -> u64
+    requires { ⌜ Room slots (now table) × (j < slots) × (p < numberCount) ⌝ }
+    ensures { λ r. ⌜ r ≡ num (slot (view slots (now (table .entry))) j) p ⌝ }
 {
     table[WIDTH * j + p]
 }
 
 // Slot j as Real attributes.
-pub fn real_at(slot_count: usize, table: &[u64], j: usize) -> RealAttrs
-    requires { ⌜ Room «slot_count» (now table) × (j < «slot_count») ⌝ }
-    ensures { λ r. ⌜ r ≡ realAttrs (slot (view «slot_count» (now (table .entry))) j) ⌝ }
+pub fn real_at(slots: usize, table: &[u64], j: usize) -> RealAttrs
+    requires { ⌜ Room slots (now table) × (j < slots) ⌝ }
+    ensures { λ r. ⌜ r ≡ realAttrs (slot (view slots (now (table .entry))) j) ⌝ }
 {
     RealAttrs {
-        marks: marks_at(slot_count, table, j) as usize,
-        quantity: number(slot_count, table, j, QUANTITY_BIT) as usize,
-        unit: number(slot_count, table, j, UNIT_BIT) as usize,
-        display: number(slot_count, table, j, DISPLAY_UNIT_BIT) as usize,
-        min: real_of_bits(number(slot_count, table, j, MIN_BIT)),
-        max: real_of_bits(number(slot_count, table, j, MAX_BIT)),
-        nominal: real_of_bits(number(slot_count, table, j, NOMINAL_BIT)),
+        marks: marks_at(slots, table, j) as usize,
+        quantity: number(slots, table, j, QUANTITY_BIT) as usize,
+        unit: number(slots, table, j, UNIT_BIT) as usize,
+        display: number(slots, table, j, DISPLAY_UNIT_BIT) as usize,
+        min: real_of_bits(number(slots, table, j, MIN_BIT)),
+        max: real_of_bits(number(slots, table, j, MAX_BIT)),
+        nominal: real_of_bits(number(slots, table, j, NOMINAL_BIT)),
     }
 }
 
 // Slot j as Integer attributes.
-pub fn int_at(slot_count: usize, table: &[u64], j: usize) -> IntAttrs
-    requires { ⌜ Room «slot_count» (now table) × (j < «slot_count») ⌝ }
-    ensures { λ r. ⌜ r ≡ intAttrs (slot (view «slot_count» (now (table .entry))) j) ⌝ }
+pub fn int_at(slots: usize, table: &[u64], j: usize) -> IntAttrs
+    requires { ⌜ Room slots (now table) × (j < slots) ⌝ }
+    ensures { λ r. ⌜ r ≡ intAttrs (slot (view slots (now (table .entry))) j) ⌝ }
 {
     IntAttrs {
-        marks: marks_at(slot_count, table, j) as usize,
-        min: int_of_bits(number(slot_count, table, j, MIN_BIT)),
-        max: int_of_bits(number(slot_count, table, j, MAX_BIT)),
+        marks: marks_at(slots, table, j) as usize,
+        min: int_of_bits(number(slots, table, j, MIN_BIT)),
+        max: int_of_bits(number(slots, table, j, MAX_BIT)),
     }
 }
 
 // What slot j declares for a detail.
-pub fn declared_at(slot_count: usize, table: &[u64], j: usize, detail: usize) -> Given
-    requires { ⌜ Room «slot_count» (now table) × (j < «slot_count») × (detail ≤ displayDetail) ⌝ }
-    ensures { λ r. ⌜ Declared detail «slot_count» (now (table .entry)) j (r .set) (r .value) ⌝ }
+pub fn declared_at(slots: usize, table: &[u64], j: usize, detail: usize) -> Given
+    requires { ⌜ Room slots (now table) × (j < slots) × (detail ≤ displayDetail) ⌝ }
+    ensures { λ r. ⌜ Declared detail slots (now (table .entry)) j (r .set) (r .value) ⌝ }
 {
-    let kind = kind_at(slot_count, table, j);
-    let marks = marks_at(slot_count, table, j);
+    let kind = kind_at(slots, table, j);
+    let marks = marks_at(slots, table, j);
     if is_declared(kind, marks, detail) {
         let p = bit_of(detail);
         return Given {
             set: true,
-            value: number(slot_count, table, j, p),
+            value: number(slots, table, j, p),
         };
     }
     Given {
@@ -188,15 +188,15 @@ pub fn declared_at(slot_count: usize, table: &[u64], j: usize, detail: usize) ->
 }
 
 // Slot j takes v for a detail, where it is of the kind and declares nothing.
-pub fn put_one(slot_count: usize, table: &mut [u64], j: usize, detail: usize, v: u64)
-    requires { ⌜ Room «slot_count» (now table) × (j < «slot_count») × (detail ≤ displayDetail) ⌝ }
-    ensures { λ _. ⌜ PutOne detail v «slot_count» j (now (table .entry)) (now (table .exit)) ⌝ }
+pub fn put_one(slots: usize, table: &mut [u64], j: usize, detail: usize, v: u64)
+    requires { ⌜ Room slots (now table) × (j < slots) × (detail ≤ displayDetail) ⌝ }
+    ensures { λ _. ⌜ PutOne detail v slots j (now (table .entry)) (now (table .exit)) ⌝ }
 {
-    if kind_at(slot_count, table, j) != kind_of(detail) {
+    if kind_at(slots, table, j) != kind_of(detail) {
         return;
     }
     let p = bit_of(detail);
-    let marks = marks_at(slot_count, table, j);
+    let marks = marks_at(slots, table, j);
     if is_marked(marks, p) {
         return;
     }
@@ -242,11 +242,11 @@ pub fn load_slots(image: &[u8], layout: Layout, table: &mut [u64]) -> usize
     requires { ⌜ Laid (now image) layout × Room (slotCount (modelOf (now image))) (now table) ⌝ }
     ensures { λ n. ⌜ Read (modelOf (now (image .entry))) n (now (table .exit)) ⌝ }
 {
-    let slot_count = layout.connectors.count + layout.outputs.count;
+    let slots = layout.connectors.count + layout.outputs.count;
     let mut j = 0;
-    while j < slot_count {
+    while j < slots {
         load_at(image, layout, j, table);
         j += 1;
     }
-    slot_count
+    slots
 }

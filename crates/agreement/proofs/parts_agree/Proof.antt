@@ -9,7 +9,7 @@ parts-agree-spec =
     tie.close
     (tie.spec
     (λ c κs. search needs)
-    (λ c. let walk = c .before .before in parts-differ _ _ _ (walk .diagnostics-agree .ensures .0) (walk .diagnostics-agree .ensures .1) (c .before .before .before .before .before .before .before .before .pre .2) (c .if1 .taken))
+    (λ c. search (parts-differ, needs))
     (λ c κs. search needs)
-    (λ c. let walk = c .before .before .before .before in parts-same _ _ _ (walk .diagnostics-agree .ensures .0) (walk .diagnostics-agree .ensures .1) (c .before .before .before .before .before .before .before .before .before .before .pre .2) (c .before .filled-agrees .ensures) (c .before .before .if1 .left) (c .if2 .taken))
-    (λ c. let walk = c .before .before .before .before in parts-filled _ _ _ (walk .diagnostics-agree .ensures .0) (walk .diagnostics-agree .ensures .1) (c .before .before .before .before .before .before .before .before .before .before .pre .2) (c .before .filled-agrees .ensures) (c .before .before .if1 .left) (c .if2 .left)))
+    (λ c. search (parts-same, needs))
+    (λ c. search (parts-filled, needs)))

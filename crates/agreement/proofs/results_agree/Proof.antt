@@ -8,8 +8,8 @@ pub results-agree-spec : {M : Type 1} → statement M
 results-agree-spec =
     tie.close
     (tie.spec
-    (λ c. results-untold _ _ (c .before .before .before .before .before .before .before .pre) (c .if1 .taken))
+    (λ c. search (results-untold, needs))
     (λ c. search needs)
-    (λ c κs. let left = c .before .before .before .before .before .before .before .before .before .before .pre in (left .accepted, left .reported, leaves-count left, left .front))
-    (λ c. results-parts _ _ (c .before .before .before .before .before .before .before .before .before .before .before .pre) (c .before .before .before .before .if1 .left) (c .parts-agree .ensures) (c .before .if2 .taken))
-    (λ c. results-counts _ _ (c .before .before .before .before .before .before .before .before .before .before .pre) (c .before .before .before .if1 .left) (c .if2 .left)))
+    (λ c κs. search (leaves-count, needs))
+    (λ c. search (results-parts, needs))
+    (λ c. search (results-counts, needs)))

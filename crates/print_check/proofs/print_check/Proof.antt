@@ -15,5 +15,5 @@ print-check-spec =
     (λ c κs. search (checked-row, needs))
     (λ c. search needs)
     (λ c.
-    let said = c .before .before .before .before .before .before .check .ensures in
-    (checked-as (c .before .before .is-checked .ensures) (said .0) lent-long, lent-filled _ _ (said .1 .1 .0))))
+    let said = c .before .before .before .before .before .before .check-lent .ensures in
+    (checked-as _ _ _ (c .before .before .is-checked .ensures) (said .0) lent-long, lent-filled _ _ (said .1 .0))))

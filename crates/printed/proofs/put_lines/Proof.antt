@@ -29,14 +29,14 @@ use types.Run.{look, store, init, forget, stop, hop, fld, from as at-place-of, l
 use types.SemTy.{cells, Arr}
 use types.Tokens.{lft-new, lft-end}
 use sound.WpLaws.{fmOf, WpFn-mono}
-use denote.RattleType.{RattleType, owns}
+use denote.RattleType.{owns}
 use denote.Shadow.{pureI}
 use denote.Laws.{Is, shows}
 use denote.Memory.{mem as memory}
 use denote.Plain.{uint-vals, uint-tells, uint-makes, uint-lawful, bool-lawful}
 use denote.Builtin.{u8, usize, bool}
 use denote.Ref.{RefT, NamedLft, now}
-use denote.Slice.{sliceTy, sliceVal, ShrSlice, MutSlice, Room, heres, codedHoleys, at-slice, finally, slice-vals, shr-slice-tells, mut-slice-tells, shr-slice-copy, shr-slice-lawful}
+use denote.Slice.{sliceTy, sliceVal, ShrSlice, MutSlice, Room, heres, codedHoleys, at-slice, slice-vals, shr-slice-tells, mut-slice-tells, shr-slice-copy, shr-slice-lawful}
 use denote.Lend.{Held, lends-slice, slice-back}
 use denote.Index.{row, whole-in, whole-out, opens-slice, closes-slice}
 use denote.Signature.{plain, namedLft}
@@ -96,9 +96,19 @@ use Rattle.printed.proofs.put_lines.Code as code
 use Rattle.printed.proofs.put_lines.Code.Mir as pieces
 
 abbrev stayed : Stays (put-lines.ended .signature .params) (put-lines.ended .kept)
-stayed =
-    (stay-none-slice (0 ∷ []) tt (plain (λ _. u8)) yes, (stay-none (λ _. L.the-row) yes, (stay-none-slice (0 ∷ []) tt (plain (λ _. usize)) yes, (stay-none-slice (0 ∷ []) tt (plain (λ _. u8)) yes,
-    (stay-none (λ _. usize) yes, (stay-none (λ _. usize) yes, (stay-slice (1 ∷ []) tt (plain (λ _. u8)), tt)))))))
+stayed = (
+  stay-none-slice (0 ∷ []) tt (plain (λ _. u8)) yes,
+  (
+    stay-none (λ _. L.the-row) yes,
+    (
+      stay-none-slice (0 ∷ []) tt (plain (λ _. usize)) yes,
+      (
+        stay-none-slice (0 ∷ []) tt (plain (λ _. u8)) yes,
+        (stay-none (λ _. usize) yes, (stay-none (λ _. usize) yes, (stay-slice (1 ∷ []) tt (plain (λ _. u8)), tt))),
+      ),
+    ),
+  ),
+)
 
 -- the second part of a sequence
 abbrev then : Body → Body
@@ -494,9 +504,19 @@ module _ {M : Type 1} (𝓤 : URA M) (H : Heap 𝓤) (A : Atoms 𝓤) (W : Given
       (shr-slice-lawful 𝓤 H A W (named 0) (κs .0) usize .typed (a .1 .1 .0) _ (are .1 .1 .0) .0) (shr-slice-lawful 𝓤 H A W (named 0) (κs .0) u8 .typed (a .1 .1 .1 .0) _ (are .1 .1 .1 .0) .0) 𝓣 known-goes known-next known-put))
 
   put-lines-meets : Meets 𝓤 H A put-lines.signature (WpFn 𝓤 H (𝓣 .C) (𝓣 .Λ) code.function) (put-lines.spec 𝓤 H A mem run)
-  put-lines-meets = walk-meets 𝓤 H A put-lines.ended stayed W
-      (goes-none-slice 𝓤 H A W 2 (0 ∷ []) tt (plain (λ _. u8)) yes, (goes-none 𝓤 H A W 2 (λ _. L.the-row) yes (λ κs x f. refl), (goes-none-slice 𝓤 H A W 2 (0 ∷ []) tt (plain (λ _. usize)) yes, (goes-none-slice 𝓤 H A W 2 (0 ∷ []) tt (plain (λ _. u8)) yes,
-      (goes-none 𝓤 H A W 2 (λ _. usize) yes (λ κs x f. refl), (goes-none 𝓤 H A W 2 (λ _. usize) yes (λ κs x f. refl), (goes-slice 𝓤 H A W 2 1 tt (plain (λ _. u8)), tt)))))))
+  put-lines-meets = walk-meets 𝓤 H A put-lines.ended stayed W (
+    goes-none-slice 𝓤 H A W 2 (0 ∷ []) tt (plain (λ _. u8)) yes,
+    (
+      goes-none 𝓤 H A W 2 (λ _. L.the-row) yes (λ κs x f. refl),
+      (
+        goes-none-slice 𝓤 H A W 2 (0 ∷ []) tt (plain (λ _. usize)) yes,
+        (
+          goes-none-slice 𝓤 H A W 2 (0 ∷ []) tt (plain (λ _. u8)) yes,
+          (goes-none 𝓤 H A W 2 (λ _. usize) yes (λ κs x f. refl), (goes-none 𝓤 H A W 2 (λ _. usize) yes (λ κs x f. refl), (goes-slice 𝓤 H A W 2 1 tt (plain (λ _. u8)), tt))),
+        ),
+      ),
+    ),
+  )
       (put-lines.clauses 𝓤 H A mem run) (WpFn 𝓤 H (𝓣 .C) (𝓣 .Λ) code.function) (WpFn-mono 𝓤 H (W .laws) 𝓣 code.function) put-lines-walks
 
 pub put-lines-spec : {M : Type 1} → stated.statement M
