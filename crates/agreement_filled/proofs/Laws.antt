@@ -25,7 +25,7 @@ use Rattle.image_accept.specs.declared.Layout.{Layout}
 use Rattle.image_accept.specs.declared.Acceptance.{Acceptance}
 use Rattle.image_accept.specs.declared.Acceptance.the-variants.{Refused}
 use Rattle.image_records.proofs.Laws.{connectors-counted, outputs-counted, connectors-few, boundary-outputs-few}
-use Rattle.unify_slots.specs.Columns.{slotCount}
+use Rattle.unify_slots.specs.Table.{slotCount}
 use Rattle.outcome.specs.Filled.{slotOffsets, filledOf}
 use Rattle.moved.proofs.Regions.{connectorSlots, outputSlots, slots-fit}
 use Rattle.filling.proofs.Laws.{patch-start}

@@ -9,7 +9,7 @@ use Rattle.base.specs.Buffers.{patch}
 use Rattle.numbers.specs.Bytes.{byte, le32}
 use Rattle.oce_model.specs.Format.{connectorTag, boundaryOutputTag, attrsLength}
 use Rattle.oce_model.specs.Model.{Model, modelOf, connectorCount, boundaryOutputCount}
-use Rattle.unify_slots.specs.Columns.{slotCount}
+use Rattle.unify_slots.specs.Table.{slotCount}
 use Rattle.outcome.specs.Filled.{slotOffsets, filledOf}
 
 -- tag 1, zero bytes 3, index 4, attributes 32

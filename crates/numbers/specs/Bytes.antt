@@ -13,12 +13,15 @@ use mir.Val.{toZ}
 abbrev pub byteRange : ℕ
 byteRange = 256
 
--- and how many two and four bytes can
+-- and how many two, four and eight bytes can
 abbrev pub shortRange : ℕ
 shortRange = 65536
 
 abbrev pub wordRange : ℕ
 wordRange = 4294967296
+
+abbrev pub longRange : ℕ
+longRange = 18446744073709551616
 
 -- the byte at an offset, 0 past the end
 abbrev pub byte : List ℕ → ℕ → ℕ

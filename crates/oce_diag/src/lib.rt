@@ -9,13 +9,12 @@ use oce_model::NO_TEXT;
 ghost use mathlib.Core.Path.{_≡_};
 ghost use mathlib.Core.List.{[], _∷_};
 ghost use Prim.Native.Nat.{_+_, _<_, _≤_};
-ghost use lib.ListN.{length};
 ghost use Rattle.base.specs.Lists.{only};
 ghost use Rattle.oce_diag.specs.Diagnostics.{connectorSubject, blockSubject, error, warning, errors, warnings};
-ghost use Rattle.oce_diag.specs.Encoding.{severityNumber, codeNumber, subjectKind, subjectNumber, diagnosticBytes};
+ghost use Rattle.oce_diag.specs.Encoding.{severityNumber, codeNumber, subjectKind, subjectNumber, diagnosticBytes, diagnosticSize};
 ghost use Rattle.oce_diag.specs.Putting.{putOne, total, Put, Countable, Adds};
-ghost use Rattle.numbers.specs.Bytes.{shortRange, wordRange, byte};
-ghost use Rattle.oce_diag.specs.Decoded.{severityOf, codeOf, subjectFrom, decodedAt};
+ghost use Rattle.numbers.specs.Bytes.{shortRange, wordRange, byte, longRange};
+ghost use Rattle.oce_diag.specs.Decoded.{severityOf, codeOf, subjectFrom, decodedAt, diagnosticAt};
 
 // The Rust's `Severity`, less `Info`, which no rule gives.
 pub enum Severity {
@@ -325,7 +324,7 @@ fn byte_of(s: &[u8], at: usize) -> u8
 
 // The diagnostic whose bytes begin at an offset of a report.
 pub fn decode(report: &[u8], at: usize) -> Diagnostic
-    requires { ⌜ at ≤ length (now report) ⌝ }
+    requires { ⌜ at + diagnosticSize < longRange ⌝ }
     ensures { λ r. ⌜ r ≡ decodedAt (now (report .entry)) at ⌝ }
 {
     let number = at32(report, at + NUMBER_PLACE) as u32;
@@ -340,4 +339,12 @@ pub fn decode(report: &[u8], at: usize) -> Diagnostic
         subject,
         place: at32(report, at + PLACE_PLACE) as u32,
     }
+}
+
+// Diagnostic i of a report.
+pub fn diagnostic_at(report: &[u8], i: usize) -> Diagnostic
+    requires { ⌜ i < wordRange ⌝ }
+    ensures { λ r. ⌜ r ≡ diagnosticAt (now (report .entry)) i ⌝ }
+{
+    decode(report, DIAGNOSTIC_SIZE * i)
 }
