@@ -1,10 +1,10 @@
 // Stored diagnostics beside those of a report, as docs/STORED_ANSWERS.md has them.
 use base::part_of;
-use image_contents::is_set;
 use image_texts::same_bytes;
 use numbers::at16;
 use numbers::at32;
 use numbers::byte_at;
+use numbers::is_set;
 use oce_diag::CODE_PLACE;
 use oce_diag::DETAIL_PLACE;
 use oce_diag::DIAGNOSTIC_LENGTH;
