@@ -143,6 +143,7 @@ pub fn warning(code: DiagCode, rule: u8, detail: u8, subject: Subject, place: u3
 
 // ---- its numbers
 
+// A severity's number in a report.
 pub fn severity_number(s: Severity) -> u8
     ensures { λ r. ⌜ r ≡ severityNumber s ⌝ }
 {
@@ -152,6 +153,7 @@ pub fn severity_number(s: Severity) -> u8
     }
 }
 
+// A code's number in a report.
 pub fn code_number(c: DiagCode) -> u8
     ensures { λ r. ⌜ r ≡ codeNumber c ⌝ }
 {
@@ -167,6 +169,7 @@ pub fn code_number(c: DiagCode) -> u8
     }
 }
 
+// The number of a subject's kind in a report.
 pub fn subject_kind(s: Subject) -> u8
     ensures { λ r. ⌜ r ≡ subjectKind s ⌝ }
 {
@@ -178,6 +181,7 @@ pub fn subject_kind(s: Subject) -> u8
     }
 }
 
+// A text's number or an id, 0 for no subject.
 pub fn subject_number(s: Subject) -> u32
     ensures { λ r. ⌜ r ≡ subjectNumber s ⌝ }
 {
