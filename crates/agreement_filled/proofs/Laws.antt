@@ -1,6 +1,5 @@
 -- Laws of stored filled records and of the image with their attributes.
 use Prim.Native.Nat.{ℕ, zero, suc, _+_, _-_, _*_, _/_, _<_, _≤_}
-use native.Mathlib.Numerals.{add-one}
 use native.Mathlib.Decide.{ℕ-discrete}
 use native.Mathlib.Omega.{arith}
 use mathlib.Core.Path.{_≡_, refl, sym, ap, _∙_}
@@ -13,7 +12,7 @@ use lib.Seq.{take-at}
 use borrow.Author.Tests.{lt-ltb, le-ltb, le-leb, lt-leb, eq-eqb, ne-eqb, ltb-true, eqb-true}
 use Rattle.base.specs.Lists.{steps, tally, same}
 use Rattle.base.specs.Buffers.{patch, startsWith}
-use Rattle.base.proofs.Lists.{and-parts, steps-next, tally-le}
+use Rattle.base.proofs.Lists.{and-parts, steps-next, tally-next, tally-le}
 use Rattle.base.proofs.Buffers.{patch-length, startsWith-patch}
 use Rattle.numbers.specs.Bytes.{byte, le32}
 use Rattle.oce_model.specs.Format.{connectorTag, boundaryOutputTag, attrsLength, longestImage}
@@ -30,10 +29,6 @@ use Rattle.outcome.specs.Filled.{slotOffsets, filledOf}
 use Rattle.moved.proofs.Regions.{connectorSlots, outputSlots, slots-fit}
 use Rattle.filling.proofs.Laws.{patch-start}
 use Rattle.agreement_filled.specs.Filled.{indexAt, attributesAt, filledSize, slotOf, slotAt, isSlot, putRecord, putRecords, slotsAmong, filledAgrees}
-
-tally-next : (k : ℕ) (f : ℕ → Bool) → tally (k + 1) f ≡ tally k f + cond (f k) 1 0
-unfolding tally
-tally-next k f = rw add-one
 
 -- ---- the slot of a record
 

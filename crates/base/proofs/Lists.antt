@@ -139,6 +139,10 @@ module _ {A : Type 0} (p : A → Bool) where
 
 -- ---- tests over the indices below n
 
+pub tally-next : (k : ℕ) (f : ℕ → Bool) → tally (k + 1) f ≡ tally k f + cond (f k) 1 0
+unfolding tally
+tally-next k f = rw add-one
+
 pub tally-yes : (k : ℕ) (f : ℕ → Bool) → f k ≡ true → tally (k + 1) f ≡ tally k f + 1
 unfolding tally
 tally-yes k f h = rw (add-one k, h)

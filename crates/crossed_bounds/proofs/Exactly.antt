@@ -26,7 +26,7 @@ use Rattle.oce_diag.specs.declared.DiagCode.the-variants.{CrossedBounds}
 use Rattle.crossed_bounds.specs.Ranges.{finiteEnd, endOf, realRange, orDefault, integerRange, rangeOf, crossed, combined}
 use Rattle.crossed_bounds.specs.Values.{ofKind, fits64}
 use Rattle.crossed_bounds.specs.Groups.{Group, members}
-use Rattle.crossed_bounds.specs.CrossedBounds.{memberIri, memberAttrs, memberExternal, groupFaults, memberRanges}
+use Rattle.crossed_bounds.specs.CrossedBounds.{memberIri, memberAttrs, memberExternal, groupFaults, memberRanges, shared}
 use Rattle.crossed_bounds.specs.Counts.{oneKind, counts, Common, NoCommon}
 use Rattle.crossed_bounds.specs.declared.Bounds.the-variants.{Real}
 use Rattle.crossed_bounds.specs.declared.Range.{Range}
@@ -102,15 +102,14 @@ module _ (m : Model) (least : fits64 (m .integerMin) ≡ true) (greatest : fits6
   pub exactly : (g : Group) → Exactly m g
   unfolding counts memberRanges groupFaults
   exactly g =
-      let shared = any (memberExternal m) (members g) && ltb 1 (length (members g)) in
       let r = rangeOf m (memberAttrs m (g .first)) in
       let rs = map (λ x. rangeOf m (memberAttrs m x)) (g .others) in
       let G : all good (r ∷ rs) ≡ true = ranges-good (members g) in
       record {
-        uncounted = λ c. ap (λ t. only t (error CrossedBounds 5 4 (Text (memberIri m (g .first))) (length (members g)))) (shut shared r rs G c);
-        reported = λ c n. let p = and-parts shared (oneKind (r ∷ rs)) c in rw (p .0, crossed-if-none r rs G (p .1) n);
-        silent = λ c k w. rw (and-parts shared (oneKind (r ∷ rs)) c .0, uncrossed-if-some r rs G k w);
-        decided = λ c. none-or-some r rs G (and-parts shared (oneKind (r ∷ rs)) c .1);
+        uncounted = λ c. ap (λ t. only t (error CrossedBounds 5 4 (Text (memberIri m (g .first))) (length (members g)))) (shut (shared m g) r rs G c);
+        reported = λ c n. let p = and-parts (shared m g) (oneKind (r ∷ rs)) c in rw (p .0, crossed-if-none r rs G (p .1) n);
+        silent = λ c k w. rw (and-parts (shared m g) (oneKind (r ∷ rs)) c .0, uncrossed-if-some r rs G k w);
+        decided = λ c. none-or-some r rs G (and-parts (shared m g) (oneKind (r ∷ rs)) c .1);
       }
 
 -- a model that is read from bytes is such a model
