@@ -1,4 +1,5 @@
-// Connections, lent as a list of from-and-to pairs to the degree count: the Rust's `in_degrees`.
+// In-degrees of all connectors, the Rust's `in_degrees`: the connections are read once, lent a portion at
+// a time as a list of pairs, and counted in one pass.
 use image_accept::Layout;
 use image_records::connection;
 use oce_model::Connection;
@@ -13,6 +14,8 @@ ghost use Rattle.structural_degrees.specs.Columns.{Clears, Reads, Counts
 
 // So many connections are lent at once.
 pub const PORTION: usize = 64;
+
+// ---- a list of connections
 
 // Adds to each place of `degrees` how many connections lead to it, in one pass. A `to` past the end counts nowhere.
 pub fn add_degrees(connections: &[Connection], degrees: &mut [u32])
@@ -37,8 +40,7 @@ pub fn add_portion(connections: [Connection; PORTION], n: usize, degrees: &mut [
     add_degrees(&connections[..n], degrees)
 }
 
-// In-degrees of all connectors, the Rust's `in_degrees`: the connections are read once, lent a portion at
-// a time as a list of pairs, and counted in one pass.
+// ---- the connections of an image
 
 // The n connections from number `first` on, in their order.
 fn read_connections(image: &[u8], layout: Layout, first: usize, n: usize) -> [Connection; PORTION]

@@ -1,4 +1,5 @@
-// Rule 6 over all roots, details 1 to 7.
+// Rule 6, the Rust's `unify_clusters`: the slots of an image read, all roots in turn, and where the list
+// then holds no error, the test of every root's range.
 use image_accept::Layout;
 use oce_diag::Counted;
 use oce_model::ConnectorId;
@@ -21,6 +22,8 @@ ghost use Rattle.structural_degrees.specs.Columns.{Degrees};
 ghost use Rattle.unify_slots.specs.Table.{slotCount, Room};
 ghost use Rattle.unify_cluster.specs.Clusters.{mostClusterFaults};
 ghost use Rattle.unify_clusters.specs.Unified.{fewConnectors, fewLinks, Unified, mostUnifiedFaults};
+
+// ---- roots
 
 // One root: its members gathered, its details settled. A connector that drives nothing is none.
 fn unify_root<'a>(
@@ -95,8 +98,7 @@ fn unify_roots<'a>(
     c
 }
 
-// Rule 6, the Rust's `unify_clusters`: the slots of an image read, all roots in turn, and where the list
-// then holds no error, the test of every root's range.
+// ---- the arrays, and the whole rule
 
 // The most links that an accepted image has.
 const MOST_LINKS: usize = MOST_CONNECTIONS + MOST_BOUNDARY_OUTPUTS;
