@@ -18,6 +18,8 @@ use oce_model::CONNECTION_TAG;
 use oce_model::CONNECTOR_TAG;
 use oce_model::EXTERNAL_INPUT_TAG;
 use oce_model::Field;
+use oce_model::HEAD_MAX_AT;
+use oce_model::HEAD_MIN_AT;
 use oce_model::HEAD_TAG;
 use oce_model::LONGEST_IMAGE;
 use oce_model::MOST_BLOCKS;
@@ -67,11 +69,6 @@ enum Verdict {
     Away { number: u32, at: u32 },
     Fine,
 }
-
-// Where the head's Integer defaults stand.
-const INTEGER_MIN: usize = 7;
-
-const INTEGER_MAX: usize = 15;
 
 // ---- sections
 
@@ -229,8 +226,8 @@ fn lay_out(s: &[u8], texts: &mut [usize], blocks: &mut [usize]) -> Layout
         externals,
         inputs,
         outputs,
-        min: int_of_bits(at64(s, INTEGER_MIN)),
-        max: int_of_bits(at64(s, INTEGER_MAX)),
+        min: int_of_bits(at64(s, HEAD_MIN_AT)),
+        max: int_of_bits(at64(s, HEAD_MAX_AT)),
     }
 }
 
@@ -488,8 +485,8 @@ fn survey(s: &[u8], texts: &mut [usize], blocks: &mut [usize]) -> Surveyed
         externals,
         inputs,
         outputs,
-        min: int_of_bits(at64(s, INTEGER_MIN)),
-        max: int_of_bits(at64(s, INTEGER_MAX)),
+        min: int_of_bits(at64(s, HEAD_MIN_AT)),
+        max: int_of_bits(at64(s, HEAD_MAX_AT)),
     };
     Surveyed {
         fine: rest.fine,
