@@ -24,7 +24,7 @@ pub struct Report {
     pub filled: Vec<Filled>,
 }
 
-/// One diagnostic of the Rust, with what its call and message tell of document 01's numbers.
+/// One diagnostic of the Rust, with what its call and message tell of the format's numbers.
 #[derive(Clone, PartialEq, Eq, Debug)]
 pub struct Told {
     pub severity: u8,
@@ -120,7 +120,7 @@ fn tell(rule: u8, d: &Diagnostic, place: Option<u32>, texts: &Texts) -> Told {
     }
 }
 
-/// The number of a code in document 01; 0 for one that rules 1 to 6 don't raise.
+/// The number of a code in the format; 0 for one that rules 1 to 6 don't raise.
 fn code(code: DiagCode) -> u8 {
     match code {
         DiagCode::MalformedDocument => 1,

@@ -99,7 +99,7 @@ impl Coverage {
     }
 }
 
-/// Every rule and detail of document 01.
+/// Every rule and detail of docs/FORMAT.md.
 pub fn details() -> impl Iterator<Item = (u8, u8)> {
     (1..)
         .zip(DETAILS)

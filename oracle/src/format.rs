@@ -1,4 +1,4 @@
-//! The numbers of the model image and of the report, as document 01 gives them, named once.
+//! The numbers of the model image and of the report, as docs/FORMAT.md gives them, named once.
 
 /// The shortest and the longest image.
 pub const MIN_IMAGE: usize = 23;

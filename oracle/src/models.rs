@@ -1,9 +1,9 @@
-//! The models of document 01: the printed example and the thirteen models a to m.
+//! The models of docs/FORMAT.md: the printed example and the thirteen models a to m.
 
 use crate::format::*;
 use crate::image::{Block, BoundaryInput, Connection, Connector, Draft};
 
-/// A model of document 01 and its name there.
+/// A model of docs/FORMAT.md and its name there.
 pub struct Model {
     pub name: &'static str,
     pub image: Vec<u8>,

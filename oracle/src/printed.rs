@@ -1,4 +1,4 @@
-//! The answer as text. Each diagnostic's line has the form of the printed report of document 01,
+//! The answer as text. Each diagnostic's line has the form of FORMAT.md's printed report,
 //! `?` standing for what the Rust doesn't tell; its message and the fillings follow, indented.
 
 use std::fmt::Write;

@@ -1,4 +1,4 @@
-//! Document 01's printed example and thirteen models, with the results it gives.
+//! The printed example and the thirteen models of docs/FORMAT.md, with the results it gives.
 
 use oracle::answer::{Answer, Report, answer};
 use oracle::format::*;
@@ -62,7 +62,7 @@ fn results_of_the_thirteen_models() {
         ("i", &[]),
         ("j", &["error CrossedBounds 5.1 0 connector#0"]),
         ("k", &[]),
-        // The Rust doesn't tell 5.4's place, the number of members; document 01 gives 2.
+        // The Rust doesn't tell 5.4's place, the number of members; FORMAT.md gives 2.
         ("l", &["error CrossedBounds 5.4 ? u"]),
         ("m", &["warning DisplayUnitDivergence 6.7 0 connector#0"]),
     ];

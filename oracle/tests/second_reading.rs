@@ -1,4 +1,4 @@
-//! A second reading of document 01's rules, written from its words over the image's bytes and not
+//! A second reading of the rules of docs/FORMAT.md, written from its words over the image's bytes and not
 //! from the Rust, compared with the oracle on made-up images: report, places and fillings.
 
 use oracle::answer::{Answer, COMBINED, Report, answer};

@@ -23,7 +23,7 @@ use Rattle.agreement.specs.declared.Agreement.the-variants.{Same, Refusa
 abbrev pub longestReport : ℕ
 longestReport = 131072
 
--- 'A refused image: number and offset'
+-- of a refused image: number and offset
 unfoldable pub refusalAgreement : Record → ℕ → ℕ → Agreement
 refusalAgreement r number at = cond (eqb (r .answer .number) number && eqb (r .answer .offset) at) Same (Refusal number at)
 

@@ -1,4 +1,4 @@
--- Stored diagnostics beside those of a report: docs/STORED_ANSWERS.md, 'A diagnostic, 16 bytes like those of the report, then its subject'. Bytes past the file's end
+-- Stored diagnostics beside those of a report: docs/STORED_ANSWERS.md has their form, 16 bytes and the subject's text. Bytes past the file's end
 -- count as 0.
 use Prim.Native.Nat.{ℕ, suc, _+_, _-_, _<_, _≤_}
 use mathlib.Core.Path.{_≡_}
@@ -42,7 +42,7 @@ placeAt = placePlace - severityPlace
 abbrev pub textAt : ℕ
 textAt = diagnosticLength
 
--- 'told: bit 0 the subject number, bit 1 the place'
+-- the bits of what is told: the subject number, the place
 abbrev pub numberBit : ℕ
 numberBit = 0
 
@@ -51,7 +51,7 @@ placeBit = 1
 
 -- ---- one: the stored diagnostic at an offset of the file f, beside d, a diagnostic of the image s
 
--- 'severity, code, rule, detail, subject kind'
+-- severity, code, rule, detail and subject kind are the same
 unfoldable pub sameFields : List ℕ → ℕ → Diagnostic → Bool
 sameFields f at d =
     eqb (byte f at) (severityNumber (d .severity))
@@ -60,13 +60,13 @@ sameFields f at d =
     && eqb (byte f (at + detailAt)) (d .detail)
     && eqb (byte f (at + kindAt)) (subjectKind (d .subject))
 
--- 'The subject number and the place where told'
+-- subject number and place are, where the file tells them
 unfoldable pub sameNumbers : List ℕ → ℕ → Diagnostic → Bool
 sameNumbers f at d =
     (not (bit (byte f (at + toldAt)) numberBit) || eqb (le32 f (at + numberAt)) (subjectNumber (d .subject)))
     && (not (bit (byte f (at + toldAt)) placeBit) || eqb (le32 f (at + placeAt)) (d .place))
 
--- 'the subject's bytes'
+-- the subject's text is
 unfoldable pub sameSubject : List ℕ → ℕ → List ℕ → Subject → Bool
 sameSubject f at s x = same (subjectText s (subjectKind x) (subjectNumber x)) (take (le16 f (at + textLengthAt)) (drop (at + textAt) f))
 

@@ -1,4 +1,4 @@
--- Stored filled records, and the image with their attributes: docs/STORED_ANSWERS.md, 'A filled record, 40 bytes'. Bytes past the file's end count as 0.
+-- Stored filled records, and the image with their attributes: docs/STORED_ANSWERS.md has their form, 40 bytes. Bytes past the file's end count as 0.
 use Prim.Native.Nat.{ℕ, _+_, _*_}
 use mathlib.Core.Bool.{Bool, cond, _&&_}
 use mathlib.Core.List.{List}
@@ -50,7 +50,7 @@ putRecords f at s n t = steps n (λ k. putRecord f (at + filledSize * k) s) t
 unfoldable pub slotsAmong : List ℕ → ℕ → List ℕ → ℕ → ℕ
 slotsAmong f at s n = tally n (λ k. isSlot f (at + filledSize * k) s)
 
--- they end where the stored record does, all are of slots, and 'The filled image is the image with these attributes put in and nothing else changed'
+-- they end where the stored record does, all are of slots, and the filled image is the image with their attributes and nothing else changed
 unfoldable pub filledAgrees : List ℕ → ℕ → ℕ → ℕ → List ℕ → Bool
 filledAgrees f at n end s =
     leb end (length f) && eqb (at + filledSize * n) end && eqb (slotsAmong f at s n) n && same (putRecords f at s n s) (filledOf s)

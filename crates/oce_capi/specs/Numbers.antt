@@ -4,7 +4,7 @@ use Rattle.outcome.specs.declared.Answer.{Answer}
 use Rattle.outcome.specs.declared.Answer.the-variants.{Refused, Checked}
 use Rattle.oce_capi.specs.declared.OceAnswer.{OceAnswer}
 
--- Document 01's numbers for each case of the answer: a refusal's number and offset (the bytes needed for 9 and 10), no errors and no warnings; 0 for no refusal and
+-- The numbers of each case of the answer, FORMAT 1 and 6: a refusal's number and offset (the bytes needed for 9 and 10), no errors and no warnings; 0 for no refusal and
 -- for its offset, then 'the number of errors and of warnings'
 abbrev pub numbers : Answer → OceAnswer
 numbers (Refused number at) = record { refusal = number; at = at; errors = 0; warnings = 0 }

@@ -7,7 +7,7 @@ ghost use Rattle.outcome.specs.Answer.{answer, filledAfter, reportAfter};
 ghost use Rattle.moved.specs.Moved.{Moved};
 ghost use Rattle.oce_capi.specs.Numbers.{numbers};
 
-// An answer as four numbers of document 01.
+// An answer as four numbers.
 #[repr(C)]
 pub struct OceAnswer {
     // the refusal's number; 0 where the image is checked
@@ -40,7 +40,7 @@ fn in_numbers(a: Answer) -> OceAnswer
 }
 
 // Checks a model image: its report into one buffer, its filled image into the other. Where it is refused, or a buffer is
-// too short, both buffers stay as they are. `answer` is document 01's answer in numbers, `moved` demand 3 of that answer.
+// too short, both buffers stay as they are. `answer` is the answer in numbers, `moved` demand 3 of that answer.
 #[no_mangle]
 pub extern "C" fn oce_check(image: &[u8], filled: &mut [u8], report: &mut [u8]) -> OceAnswer
     ensures answer { λ r. ⌜ r ≡ numbers (answer (now (image .entry)) (length (now (filled .entry))) (length (now (report .entry)))) ⌝ }

@@ -228,7 +228,7 @@ fn check_any(image: &[u8], filled: &mut [u8], report: &mut [u8]) -> Answer
 
 // Checks a model image: the report of its diagnostics goes into one buffer, the image with its
 // attributes filled into the other, bytes behind both stay. Where the image is refused, or a buffer is
-// too short, both buffers stay as they are. `answer` is document 01's answer, `numbers` its numbers,
+// too short, both buffers stay as they are. `answer` is the answer of FORMAT 1, `numbers` its numbers,
 // `moved` demand 3.
 pub fn check(image: &[u8], filled: &mut [u8], report: &mut [u8]) -> Answer
     ensures answer { λ a. ⌜ a ≡ answer (now (image .entry)) (length (now (filled .entry))) (length (now (report .entry))) ⌝ }

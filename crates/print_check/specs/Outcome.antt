@@ -8,7 +8,7 @@ use Rattle.outcome.specs.declared.Answer.the-variants.{Refused, Checked}
 use Rattle.print_check.specs.declared.Input.{Input}
 use Rattle.print_check.specs.declared.Input.the-variants.{Bytes, Unreadable}
 
--- Document 01's program 'lends 65,535 bytes for each buffer'; the report's are 0 before the call
+-- The program lends 65,535 bytes for each buffer (FORMAT 19); the report's are 0 before the call
 abbrev pub longestReport : ℕ
 longestReport = 65535
 

@@ -3,7 +3,7 @@ pub mod Lists
 pub mod Model
 pub mod Groups
 pub mod Rules
--- Laws of the printed report, its pieces as a whole, and document 01's example.
+-- Laws of the printed report, its pieces as a whole, and FORMAT 19's example.
 pub mod Laws
 pub mod Row
 pub mod Whole

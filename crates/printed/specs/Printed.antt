@@ -1,5 +1,4 @@
--- The printed report. Document 01, 'The printed report': 'First the counts, then a line a diagnostic in report order; numbers are decimal, lines end in 0x0A. Fields: severity
--- (`error` or `warning`), code, rule and detail, place, subject (`-` for none). A refusal prints only `refused 1 at 0`, number and offset.'
+-- The printed report, FORMAT 19.
 use Prim.Native.Nat.{ℕ, _+_}
 use mathlib.Core.List.{List, [], _∷_, _++_}
 use lib.ListN.{length}
@@ -68,7 +67,7 @@ codeName DisplayUnitDivergence = 0x44 ∷ 0x69 ∷ 0x73 ∷ 0x70 ∷ 0x6C ∷ 0x
 
 -- ---- lines
 
--- '`-` for none', otherwise the subject's text
+-- a subject's text, `-` where there is none
 unfoldable pub subjectField : List ℕ → Subject → List ℕ
 subjectField s Nothing = dash
 subjectField s (Text t) = subjectText s textSubjectKind t
@@ -85,11 +84,11 @@ ruleAndDetail rule detail = (space ++ decimal rule) ++ (dot ++ decimal detail)
 abbrev pub lineEnd : List ℕ → Subject → List ℕ
 lineEnd s subject = space ++ subjectField s subject ++ newline
 
--- 'a line a diagnostic'
+-- the line of a diagnostic
 unfoldable pub line : List ℕ → Diagnostic → List ℕ
 line s d = names (d .severity) (d .code) ++ ruleAndDetail (d .rule) (d .detail) ++ (space ++ decimal (d .place)) ++ lineEnd s (d .subject)
 
--- of what a reader found at an offset of a report
+-- the line of what a reader found at an offset of a report
 unfoldable pub lineAt : List ℕ → List ℕ → ℕ → Found → List ℕ
 lineAt s report at (found.Field tag len) = line s (decodedAt report at)
 lineAt s report at found.End = []
@@ -98,7 +97,7 @@ unfoldable pub lines : List ℕ → List Diagnostic → List ℕ
 lines s [] = []
 lines s (d ∷ ds) = line s d ++ lines s ds
 
--- 'First the counts'; 'A refusal prints only `refused 1 at 0`, number and offset'
+-- the first line: the counts, or a refusal's number and offset, and then no other line
 unfoldable pub firstLine : Answer → List ℕ
 firstLine (Checked e w) = (errorsLabel ++ decimal e) ++ (warningsLabel ++ decimal w) ++ newline
 firstLine (Refused number at) = (refusedLabel ++ decimal number) ++ (atLabel ++ decimal at) ++ newline

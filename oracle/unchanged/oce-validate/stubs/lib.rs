@@ -1,5 +1,5 @@
 //! Our root of the crate `oce-validate`; the published text has only its `rules`. It hands the
-//! rules out one by one and calls them in document 01's order, which is ours.
+//! rules out one by one and calls them in the order of docs/FORMAT.md, which is ours.
 
 #![allow(dead_code, unused_imports)]
 
@@ -8,7 +8,7 @@ use oce_model::ModelGraph;
 
 mod rules;
 
-/// One rule of the driver: its number in document 01 and the published function.
+/// One rule of the driver: its number in docs/FORMAT.md and the published function.
 pub struct Rule {
     pub number: u8,
     pub check: fn(&mut ModelGraph, &mut Vec<Diagnostic>),
