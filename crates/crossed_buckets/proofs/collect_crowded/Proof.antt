@@ -20,6 +20,7 @@ collect-crowded-spec =
     (λ c. search needs)
     (λ c.
     let noted = c .before .before .before .before .before .before .before .before .before .before .before .note-all .ensures in
+    let pre = c .before .before .before .before .before .before .before .before .before .before .before .before .before .before .before .before .before .before .before .before .before .pre in
     let found = c .before .before .collect-known .ensures in
     let members = collected-crowded _ _ _ (noted .1 .1) (noted .1 .0) (noted .0) (found .0) in
-    ((members, omega (arith, found .1, c .before .before .before .before .before .before .before .before .before .before .before .before .before .before .before .before .before .before .before .before .before .pre .3, ap length (noted .0))), noted .0)))
+    ((members, omega (arith, found .1, pre .3, ap length (noted .0))), noted .0)))

@@ -20,13 +20,15 @@ abbrev μ-loop : tie.MeasureT-loop
 
 -- the loop's test and the records' number lie too far back for `search` to find
 add-i : tie.Need-add-i Inv-loop μ-loop
-add-i c = omega (arith, c .before .before .before .before .before .loop-test .taken, c .before .before .before .before .before .before .before .before .before .before .before .before .before .before .before .before .before .pre .4)
+add-i c = let pre = c .before .before .before .before .before .before .before .before .before .before .before .before .before .before .before .before .before .pre in omega (arith, c .before .before .before .before .before .loop-test .taken, pre .4)
 
 loop-less : tie.Need-loop-less Inv-loop μ-loop
 loop-less c = omega (arith, c .before .before .before .before .before .loop-test .taken)
 
 loop-again : tie.Need-loop-again Inv-loop μ-loop
-loop-again c = passed-turn (c .before .before .before .before .before .before .loop .inv) (c .before .before .step .ensures) (c .before .before .before .before .before .before .before .before .before .before .before .before .before .before .before .before .before .pre .3) (c .before .before .before .before .before .loop-test .taken)
+loop-again c =
+    let pre = c .before .before .before .before .before .before .before .before .before .before .before .before .before .before .before .before .before .pre in
+    passed-turn (c .before .before .before .before .before .before .loop .inv) (c .before .before .step .ensures) (pre .3) (c .before .before .before .before .before .loop-test .taken)
 
 same-length : tie.Need-same-length Inv-loop μ-loop
 same-length c = put-length (c .before .before .close .ensures .0) ∙ passed-length (c .before .before .before .before .before .loop .inv)

@@ -24,7 +24,7 @@ outputs-crossed-spec =
     μ-loop
     (λ c. search (emits-start, needs))
     (λ c κs. search (emits-countable, boundary-outputs-few, needs))
-    (λ c. let room = outputs-room (c .before .before .before .before .before .before .before .before .before .pre .0) in search needs)
+    (λ c. let pre = c .before .before .before .before .before .before .before .before .before .pre in let room = outputs-room (pre .0) in search needs)
     (λ c. search needs)
     (λ c. search (emits-turn, needs))
     (λ c. search (emits-length, needs))

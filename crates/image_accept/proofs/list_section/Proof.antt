@@ -25,7 +25,9 @@ list-section-spec =
     (λ c κs. search needs)
     (λ c. search needs)
     (λ c. search (sieving-fault, listing-fault, needs))
-    (λ c κs. (within-end (c .before .before .before .before .before .before .before .before .before .args .s .now) (c .before .before .before .before .before .before .loop .g) (c .before .runs-past .ensures) (c .if3 .left), c .before .before .before .before .before .before .loop .inv .sieves .rising .short))
+    (λ c κs.
+    let turn = c .before .before .before .before .before .before in
+    (within-end (turn .before .before .before .args .s .now) (turn .loop .g) (c .before .runs-past .ensures) (c .if3 .left), turn .loop .inv .sieves .rising .short))
     (λ c. search needs)
     (λ c. search (sieving-fault, listing-fault, needs))
     (λ c. search needs)
@@ -34,11 +36,14 @@ list-section-spec =
     (λ c. search needs)
     (λ c. search needs)
     (λ c κs.
-    let inv = c .before .before .before .before .before .before .before .before .before .loop .inv .sieves in
-    (within-longest (c .before .before .before .before .before .before .before .before .before .before .before .before .args .s .now) (c .before .before .before .before .before .before .before .before .before .loop .g) (c .before .before .before .before .runs-past .ensures) (c .before .before .before .if3 .left) (inv .rising .short), inv .rising .walk .few))
+    let turn = c .before .before .before .before .before .before .before .before .before in
+    let inv = turn .loop .inv .sieves in
+    (within-longest (turn .before .before .before .args .s .now) (turn .loop .g) (c .before .before .before .before .runs-past .ensures) (c .before .before .before .if3 .left) (inv .rising .short), inv .rising .walk .few))
     (λ c. search (walk-less, needs))
     (λ c.
-    let inside = within-end (c .before .before .before .before .before .before .before .before .before .before .before .before .before .args .s .now) (c .before .before .before .before .before .before .before .before .before .before .loop .g) (c .before .before .before .before .before .runs-past .ensures) (c .before .before .before .before .if3 .left) in
-    listing-turn (c .before .before .before .before .before .before .before .before .before .before .loop .inv) (c .before .before .before .before .before .before .before .before .before .before .before .before .before .pre .1) (c .before .before .before .before .before .before .before .before .if1 .taken) (c .before .before .before .before .before .before .if2 .left) inside (c .before .if5 .left) (c .before .before .before .is-faulty-list .ensures) (c .before .before .if4 .left) (c .next-field .ensures .0) (c .next-field .ensures .1))
+    let turn = c .before .before .before .before .before .before .before .before .before .before in
+    let entry = turn .before .before .before in
+    let inside = within-end (entry .args .s .now) (turn .loop .g) (c .before .before .before .before .before .runs-past .ensures) (c .before .before .before .before .if3 .left) in
+    listing-turn (turn .loop .inv) (entry .pre .1) (c .before .before .before .before .before .before .before .before .if1 .taken) (c .before .before .before .before .before .before .if2 .left) inside (c .before .if5 .left) (c .before .before .before .is-faulty-list .ensures) (c .before .before .if4 .left) (c .next-field .ensures .0) (c .next-field .ensures .1))
     (λ c. search needs)
     (λ c. search (sieving-end, listing-end, needs)))

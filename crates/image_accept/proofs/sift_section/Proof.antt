@@ -23,14 +23,19 @@ sift-section-spec =
     (λ c. search (sieving-past, needs))
     (λ c κs. search needs)
     (λ c. search (sieving-fault, needs))
-    (λ c κs. (within-end (c .before .before .before .before .before .before .before .before .args .s .now) (c .before .before .before .before .before .before .loop .g) (c .before .runs-past .ensures) (c .if3 .left), c .before .before .before .before .before .before .loop .inv .rising .short))
+    (λ c κs.
+    let turn = c .before .before .before .before .before .before in
+    (within-end (turn .before .before .args .s .now) (turn .loop .g) (c .before .runs-past .ensures) (c .if3 .left), turn .loop .inv .rising .short))
     (λ c. search (sieving-fault, needs))
     (λ c. search needs)
     (λ c κs.
-    let inv = c .before .before .before .before .before .before .before .before .loop .inv in
-    (within-longest (c .before .before .before .before .before .before .before .before .before .before .args .s .now) (c .before .before .before .before .before .before .before .before .loop .g) (c .before .before .before .runs-past .ensures) (c .before .before .if3 .left) (inv .rising .short), inv .rising .walk .few))
+    let turn = c .before .before .before .before .before .before .before .before in
+    let inv = turn .loop .inv in
+    (within-longest (turn .before .before .args .s .now) (turn .loop .g) (c .before .before .before .runs-past .ensures) (c .before .before .if3 .left) (inv .rising .short), inv .rising .walk .few))
     (λ c. search (walk-less, needs))
     (λ c.
-    let inside = within-end (c .before .before .before .before .before .before .before .before .before .before .before .args .s .now) (c .before .before .before .before .before .before .before .before .before .loop .g) (c .before .before .before .before .runs-past .ensures) (c .before .before .before .if3 .left) in
-    sieving-turn (c .before .before .before .before .before .before .before .before .before .loop .inv) (c .before .before .before .before .before .before .before .before .before .before .before .pre .1) (c .before .before .before .before .before .before .before .if1 .taken) (c .before .before .before .before .before .if2 .left) inside (c .before .before .is-faulty .ensures) (c .before .if4 .left) (c .next-field .ensures .0) (c .next-field .ensures .1))
+    let turn = c .before .before .before .before .before .before .before .before .before in
+    let entry = turn .before .before in
+    let inside = within-end (entry .args .s .now) (turn .loop .g) (c .before .before .before .before .runs-past .ensures) (c .before .before .before .if3 .left) in
+    sieving-turn (turn .loop .inv) (entry .pre .1) (c .before .before .before .before .before .before .before .if1 .taken) (c .before .before .before .before .before .if2 .left) inside (c .before .before .is-faulty .ensures) (c .before .if4 .left) (c .next-field .ensures .0) (c .next-field .ensures .1))
     (λ c. search (sieving-end, needs)))

@@ -18,4 +18,7 @@ block-faults-spec =
     (λ c.
     let e = c .before .before .before .before .before .before .before .before .before .before .before .before .before .before .block .ensures in
     let o = c .before .before .before .before .before .before .before .before .before .before .before .before .before .before .before .block-offset .ensures in
-    (block-put (c .before .before .before .before .before .before .before .before .before .before .before .before .before .before .before .before .before .before .before .pre .0) _ _ (o .0) (e .0) (e .2) (e .3) (c .before .before .before .before .before .before .before .before .before .before .before .before .block-subject-of .ensures) (c .before .before .before .before .before .before .before .before .before .before .error .ensures) (c .before .before .before .before .before .before .put-if .ensures .0) (c .before .before .block-ports .ensures .0), search needs)))
+    let pre = c .before .before .before .before .before .before .before .before .before .before .before .before .before .before .before .before .before .before .before .pre in
+    let subject = c .before .before .before .before .before .before .before .before .before .before .before .before .block-subject-of .ensures in
+    let told = c .before .before .before .before .before .before .before .before .before .before .error .ensures in
+    (block-put (pre .0) _ _ (o .0) (e .0) (e .2) (e .3) subject told (c .before .before .before .before .before .before .put-if .ensures .0) (c .before .before .block-ports .ensures .0), search needs)))
