@@ -8,7 +8,7 @@ use lib.Dec.{eqb}
 use lib.ListN.{length, take, drop}
 use Rattle.base.specs.Lists.{steps, same}
 use Rattle.numbers.specs.Bytes.{wordRange, byte, le16, le32, bit}
-use Rattle.oce_diag.specs.Encoding.{diagnosticLength, severityNumber, codeNumber, subjectKind, subjectNumber, severityPlace, codePlace, rulePlace, detailPlace, kindPlace, numberPlace, placePlace}
+use Rattle.oce_diag.specs.Encoding.{diagnosticLength, severityNumber, codeNumber, subjectKind, subjectNumber, severityPlace, codePlace, rulePlace, detailPlace, subjectKindPlace, subjectNumberPlace, placePlace}
 use Rattle.oce_diag.specs.Decoded.{diagnosticAt}
 use Rattle.oce_diag.specs.declared.Subject.{Subject}
 use Rattle.oce_diag.specs.declared.Diagnostic.{Diagnostic}
@@ -25,7 +25,7 @@ abbrev pub detailAt : ℕ
 detailAt = detailPlace - severityPlace
 
 abbrev pub kindAt : ℕ
-kindAt = kindPlace - severityPlace
+kindAt = subjectKindPlace - severityPlace
 
 abbrev pub toldAt : ℕ
 toldAt = kindAt + 1
@@ -34,7 +34,7 @@ abbrev pub textLengthAt : ℕ
 textLengthAt = toldAt + 1
 
 abbrev pub numberAt : ℕ
-numberAt = numberPlace - severityPlace
+numberAt = subjectNumberPlace - severityPlace
 
 abbrev pub placeAt : ℕ
 placeAt = placePlace - severityPlace

@@ -9,11 +9,11 @@ use oce_diag::CODE_PLACE;
 use oce_diag::DETAIL_PLACE;
 use oce_diag::DIAGNOSTIC_LENGTH;
 use oce_diag::Diagnostic;
-use oce_diag::KIND_PLACE;
-use oce_diag::NUMBER_PLACE;
 use oce_diag::PLACE_PLACE;
 use oce_diag::RULE_PLACE;
 use oce_diag::SEVERITY_PLACE;
+use oce_diag::SUBJECT_KIND_PLACE;
+use oce_diag::SUBJECT_NUMBER_PLACE;
 use oce_diag::Subject;
 use oce_diag::code_number;
 use oce_diag::diagnostic_at;
@@ -37,13 +37,13 @@ const RULE_AT: usize = RULE_PLACE - SEVERITY_PLACE;
 
 const DETAIL_AT: usize = DETAIL_PLACE - SEVERITY_PLACE;
 
-const KIND_AT: usize = KIND_PLACE - SEVERITY_PLACE;
+const KIND_AT: usize = SUBJECT_KIND_PLACE - SEVERITY_PLACE;
 
 const TOLD_AT: usize = KIND_AT + 1;
 
 const TEXT_LENGTH_AT: usize = TOLD_AT + 1;
 
-const NUMBER_AT: usize = NUMBER_PLACE - SEVERITY_PLACE;
+const NUMBER_AT: usize = SUBJECT_NUMBER_PLACE - SEVERITY_PLACE;
 
 const PLACE_AT: usize = PLACE_PLACE - SEVERITY_PLACE;
 

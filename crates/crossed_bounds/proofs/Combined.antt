@@ -131,16 +131,16 @@ lower-good None b A B = B
 lower-good (Value a) None A B = A
 lower-good (Value a) (Value b) A B = pick (λ x. ofKind realKind (real x)) (lt b a) a b A B
 
--- ---- what is kept of a list of members: nothing, if not all have an uncrossed range and one kind; else the range of that kind which holds what all hold
+-- ---- what a list of members leaves: nothing, if not all have an uncrossed range and one kind; else the range of that kind which holds what all hold
 
 pub record Holds (rs : List Range) (b : Bounds) : Type 0 where
   pub good : goodBounds b ≡ true
   pub kind : (k : ℕ) → all (plain k) rs ≡ eqb (boundsKind b) k
   pub holds : (k : ℕ) (v : Datum) → ofKind k v ≡ true → insideBounds b v ≡ insideAll v rs
 
-abbrev pub Kept : List Range → Range → Type 0
-Kept rs Absent = (k : ℕ) → all (plain k) rs ≡ false
-Kept rs (Within b) = Holds rs b
+abbrev pub Leaves : List Range → Range → Type 0
+Leaves rs Absent = (k : ℕ) → all (plain k) rs ≡ false
+Leaves rs (Within b) = Holds rs b
 
 -- the ranges before, and an uncrossed one more
 module _ (rs : List Range) (b c : Bounds) (H : Holds rs b) (u : crossedBounds c ≡ false) where
@@ -152,9 +152,9 @@ module _ (rs : List Range) (b c : Bounds) (H : Holds rs b) (u : crossedBounds c 
   unfolding insideAll all inside
   inside-more k v h = all-append (λ r. inside r v) rs (Within c ∷ []) ∙ ap₂ _&&_ (sym (H .holds k v h)) (and-true (insideBounds c v))
 
-intersect-kept : (rs : List Range) (b c : Bounds) → Holds rs b → goodBounds c ≡ true → crossedBounds c ≡ false → Kept (rs ++ (Within c ∷ [])) (intersect b c)
+intersect-leaves : (rs : List Range) (b c : Bounds) → Holds rs b → goodBounds c ≡ true → crossedBounds c ≡ false → Leaves (rs ++ (Within c ∷ [])) (intersect b c)
 unfolding goodBounds intersect insideBounds higherInteger lowerInteger
-intersect-kept rs (Real p q) (Real s t) H g u =
+intersect-leaves rs (Real p q) (Real s t) H g u =
     let A = and-parts (goodEnd p) (goodEnd q) (H .good) in
     let B = and-parts (goodEnd s) (goodEnd t) g in
     record {
@@ -172,9 +172,9 @@ intersect-kept rs (Real p q) (Real s t) H g u =
     within k (boolean x) h P Q S T = refl
     within k (string x) h P Q S T = refl
     within k (enum x y) h P Q S T = refl
-intersect-kept rs (Real p q) (Integer s t) H g u = λ k. kind-more rs (Real p q) (Integer s t) H u k ∙ differ realKind integerKind k (λ e. omega arith)
-intersect-kept rs (Integer p q) (Real s t) H g u = λ k. kind-more rs (Integer p q) (Real s t) H u k ∙ differ integerKind realKind k (λ e. omega arith)
-intersect-kept rs (Integer p q) (Integer s t) H g u =
+intersect-leaves rs (Real p q) (Integer s t) H g u = λ k. kind-more rs (Real p q) (Integer s t) H u k ∙ differ realKind integerKind k (λ e. omega arith)
+intersect-leaves rs (Integer p q) (Real s t) H g u = λ k. kind-more rs (Integer p q) (Real s t) H u k ∙ differ integerKind realKind k (λ e. omega arith)
+intersect-leaves rs (Integer p q) (Integer s t) H g u =
     let A = and-parts (ofKind integerKind (integer p)) (ofKind integerKind (integer q)) (H .good) in
     let B = and-parts (ofKind integerKind (integer s)) (ofKind integerKind (integer t)) g in
     let P = pick (λ z. ofKind integerKind (integer z)) (ltZ p s) p s (A .0) (B .0) in
@@ -202,29 +202,29 @@ crossed-plain : (b : Bounds) → crossedBounds b ≡ true → (k : ℕ) → plai
 unfolding plain
 crossed-plain b h k = rw h (and-false (eqb (boundsKind b) k))
 
-takeIn-kept : (rs : List Range) (p r : Range) → Kept rs p → good r ≡ true → Kept (rs ++ (r ∷ [])) (takeIn p r)
+takeIn-leaves : (rs : List Range) (p r : Range) → Leaves rs p → good r ≡ true → Leaves (rs ++ (r ∷ [])) (takeIn p r)
 unfolding takeIn uncrossed good plain
-takeIn-kept rs Absent r H g = λ k. all-append (plain k) rs (r ∷ []) ∙ rw (H k)
-takeIn-kept rs (Within b) Absent H g = none-more rs Absent (λ k. refl)
-takeIn-kept rs (Within b) (Within c) H g = arm (crossedBounds c) refl
+takeIn-leaves rs Absent r H g = λ k. all-append (plain k) rs (r ∷ []) ∙ rw (H k)
+takeIn-leaves rs (Within b) Absent H g = none-more rs Absent (λ k. refl)
+takeIn-leaves rs (Within b) (Within c) H g = arm (crossedBounds c) refl
   where
-    arm : (t : Bool) → crossedBounds c ≡ t → Kept (rs ++ (Within c ∷ [])) (takeIn (Within b) (Within c))
+    arm : (t : Bool) → crossedBounds c ≡ t → Leaves (rs ++ (Within c ∷ [])) (takeIn (Within b) (Within c))
     arm true h = rw h (none-more rs (Within c) (crossed-plain c h))
-    arm false h = rw h (intersect-kept rs b c H g h)
+    arm false h = rw h (intersect-leaves rs b c H g h)
 
-takeInAll-kept : (qs : List Range) (p : Range) (rs : List Range) → Kept qs p → all good rs ≡ true → Kept (qs ++ rs) (takeInAll p rs)
+takeInAll-leaves : (qs : List Range) (p : Range) (rs : List Range) → Leaves qs p → all good rs ≡ true → Leaves (qs ++ rs) (takeInAll p rs)
 unfolding takeInAll all
-takeInAll-kept qs p [] H g = rw (append-nil qs) H
-takeInAll-kept qs p (r ∷ rs) H g =
+takeInAll-leaves qs p [] H g = rw (append-nil qs) H
+takeInAll-leaves qs p (r ∷ rs) H g =
     let G = and-parts (good r) (all good rs) g in
-    rw append-assoc at (takeInAll-kept (qs ++ (r ∷ [])) (takeIn p r) rs (takeIn-kept qs p r H (G .0)) (G .1))
+    rw append-assoc at (takeInAll-leaves (qs ++ (r ∷ [])) (takeIn p r) rs (takeIn-leaves qs p r H (G .0)) (G .1))
 
-first-kept : (r : Range) → good r ≡ true → Kept (r ∷ []) (uncrossed r)
+first-leaves : (r : Range) → good r ≡ true → Leaves (r ∷ []) (uncrossed r)
 unfolding uncrossed good all plain insideAll inside
-first-kept Absent g = λ k. refl
-first-kept (Within b) g = arm (crossedBounds b) refl
+first-leaves Absent g = λ k. refl
+first-leaves (Within b) g = arm (crossedBounds b) refl
   where
-    arm : (t : Bool) → crossedBounds b ≡ t → Kept (Within b ∷ []) (uncrossed (Within b))
+    arm : (t : Bool) → crossedBounds b ≡ t → Leaves (Within b ∷ []) (uncrossed (Within b))
     arm true h = rw h (λ k. rw (crossed-plain b h k))
     arm false h = rw h (record {
       good = g;
@@ -232,8 +232,8 @@ first-kept (Within b) g = arm (crossedBounds b) refl
       holds = λ k v e. sym (and-true (insideBounds b v));
     })
 
-pub combined-kept : (r : Range) (rs : List Range) → all good (r ∷ rs) ≡ true → Kept (r ∷ rs) (combined (r ∷ rs))
+pub combined-leaves : (r : Range) (rs : List Range) → all good (r ∷ rs) ≡ true → Leaves (r ∷ rs) (combined (r ∷ rs))
 unfolding combined all
-combined-kept r rs g =
+combined-leaves r rs g =
     let G = and-parts (good r) (all good rs) g in
-    takeInAll-kept (r ∷ []) (uncrossed r) rs (first-kept r (G .0)) (G .1)
+    takeInAll-leaves (r ∷ []) (uncrossed r) rs (first-leaves r (G .0)) (G .1)

@@ -22,7 +22,7 @@ use Rattle.crossed_bounds.specs.declared.Bounds.{Bounds}
 use Rattle.crossed_bounds.specs.declared.Bounds.the-variants.{Real, Integer}
 use Rattle.crossed_bounds.specs.declared.Range.{Range}
 use Rattle.crossed_bounds.specs.declared.Range.the-variants.{Absent, Within}
-use Rattle.crossed_bounds.proofs.Combined.{both, goodEnd, goodBounds, good, real-finite, Kept, combined-kept}
+use Rattle.crossed_bounds.proofs.Combined.{both, goodEnd, goodBounds, good, real-finite, Leaves, combined-leaves}
 
 -- ---- one range
 
@@ -75,18 +75,18 @@ module _ (r : Range) (rs : List Range) (g : all good (r ∷ rs) ≡ true) where
   -- crossed: no value lies in every range
   pub none-common : crossed (combined (r ∷ rs)) ≡ true → NoCommon (r ∷ rs)
   unfolding crossed
-  none-common = arm (combined (r ∷ rs)) (combined-kept r rs g)
+  none-common = arm (combined (r ∷ rs)) (combined-leaves r rs g)
     where
-      arm : (p : Range) → Kept (r ∷ rs) p → crossed p ≡ true → NoCommon (r ∷ rs)
+      arm : (p : Range) → Leaves (r ∷ rs) p → crossed p ≡ true → NoCommon (r ∷ rs)
       arm Absent H h k v e = absurd (false≢true h)
       arm (Within b) H h k v e = sym (H .holds k v e) ∙ crossed-empty b (H .good) h k v e
 
   -- not crossed, and all uncrossed and of one kind: some value of that kind does
   pub some-common : (k : ℕ) → all (plain k) (r ∷ rs) ≡ true → crossed (combined (r ∷ rs)) ≡ false → Common k (r ∷ rs)
   unfolding crossed
-  some-common k = arm (combined (r ∷ rs)) (combined-kept r rs g)
+  some-common k = arm (combined (r ∷ rs)) (combined-leaves r rs g)
     where
-      arm : (p : Range) → Kept (r ∷ rs) p → all (plain k) (r ∷ rs) ≡ true → crossed p ≡ false → Common k (r ∷ rs)
+      arm : (p : Range) → Leaves (r ∷ rs) p → all (plain k) (r ∷ rs) ≡ true → crossed p ≡ false → Common k (r ∷ rs)
       arm Absent H a h = absurd (false≢true (sym (H k) ∙ a))
       arm (Within b) H a h =
           let w = uncrossed-holds b (H .good) h in
@@ -96,9 +96,9 @@ module _ (r : Range) (rs : List Range) (g : all good (r ∷ rs) ≡ true) where
   -- not all uncrossed and of one kind: not crossed
   pub not-one-kind : oneKind (r ∷ rs) ≡ false → crossed (combined (r ∷ rs)) ≡ false
   unfolding crossed oneKind
-  not-one-kind h = arm (combined (r ∷ rs)) (combined-kept r rs g) (or-parts (all (plain realKind) (r ∷ rs)) (all (plain integerKind) (r ∷ rs)) h)
+  not-one-kind h = arm (combined (r ∷ rs)) (combined-leaves r rs g) (or-parts (all (plain realKind) (r ∷ rs)) (all (plain integerKind) (r ∷ rs)) h)
     where
-      arm : (p : Range) → Kept (r ∷ rs) p → (all (plain realKind) (r ∷ rs) ≡ false) × (all (plain integerKind) (r ∷ rs) ≡ false) → crossed p ≡ false
+      arm : (p : Range) → Leaves (r ∷ rs) p → (all (plain realKind) (r ∷ rs) ≡ false) × (all (plain integerKind) (r ∷ rs) ≡ false) → crossed p ≡ false
       arm Absent H n = refl
       arm (Within (Real lo hi)) H n = absurd (true≢false (sym (H .kind realKind) ∙ n .0))
       arm (Within (Integer lo hi)) H n = absurd (true≢false (sym (H .kind integerKind) ∙ n .1))

@@ -1,6 +1,4 @@
--- Values, and which of them are of a type and lie in a range. Document 01, 'The model image': 'A value is, in that order of types, a finite binary64 number, a signed
--- 64 bit number, a truth value, a byte string, or an Enum's class with any 4-byte number. Ranges are those of rule 5, compared by number; an unset Real end doesn't limit,
--- and where there is no range every value lies inside. Of a boundary output's type only the kind is asked'.
+-- Values, and which of them are of a type and lie inside a range. FORMAT 5 and 13.
 use Prim.Native.Nat.{ℕ, _^_}
 use mathlib.Core.Bool.{Bool, true, false, _&&_}
 use mathlib.Core.List.{List}
@@ -40,6 +38,7 @@ ofKind k (boolean b) = eqb k booleanKind
 ofKind k (string bs) = eqb k stringKind && all (λ b. ltb b byteRange) bs
 ofKind k (enum class n) = eqb k enumKind && ltb n (2 ^ 32)
 
+-- an Enum's value has the class; other values have none
 abbrev pub classIs : ℕ → Datum → Bool
 classIs c (real x) = true
 classIs c (integer z) = true
@@ -51,15 +50,17 @@ classIs c (enum class n) = eqb class c
 unfoldable pub ofType : Connector → Datum → Bool
 ofType c v = ofKind (c .valueType) v && classIs (c .enumClass) v
 
--- by number: a Real value is not below a lower end, not above an upper one
+-- by number: a Real value is not below a lower end
 unfoldable pub notBelow : End → Float → Bool
 notBelow None x = true
 notBelow (Value a) x = le a x
 
+-- and not above an upper end
 unfoldable pub notAbove : End → Float → Bool
 notAbove None x = true
 notAbove (Value a) x = le x a
 
+-- the value is of the range's kind, and neither below min nor above max
 unfoldable pub insideBounds : Bounds → Datum → Bool
 insideBounds (Real lo hi) (real x) = notBelow lo x && notAbove hi x
 insideBounds (Real lo hi) (integer z) = false
@@ -72,7 +73,7 @@ insideBounds (Integer lo hi) (boolean b) = false
 insideBounds (Integer lo hi) (string bs) = false
 insideBounds (Integer lo hi) (enum class n) = false
 
--- the value lies inside a range
+-- the value lies inside a range; where there is none every value does
 unfoldable pub inside : Range → Datum → Bool
 inside Absent v = true
 inside (Within b) v = insideBounds b v

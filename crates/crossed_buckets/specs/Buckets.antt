@@ -37,11 +37,12 @@ oneExternal = 3
 abbrev pub crowded : ℕ
 crowded = 4
 
--- and with one member more, which is external or not
+-- the same with one member more, which is external or not
 unfoldable pub noted : ℕ → Bool → ℕ
 noted k e = cond (eqb k empty) (cond e oneExternal oneInner) (cond (e || ltb severalInner k) crowded severalInner)
 
 module _ (m : Model) where
+  -- a member's bucket
   unfoldable pub memberBucket : ℕ → ℕ
   memberBucket x = bucketOf (memberKey m x)
 

@@ -15,16 +15,15 @@ use Rattle.oce_model.specs.Model.{Model}
 use Rattle.oce_model.specs.declared.Ordering.{Ordering}
 use Rattle.oce_model.specs.declared.Ordering.the-variants.{Less, Equal, Greater}
 use Rattle.sorting.specs.Sort.{sorted}
-use Rattle.crossed_sort.specs.Sort.{first}
-use Rattle.image_texts.proofs.Order.{order-equal}
-use Rattle.crossed_bounds.specs.Groups.{Group, members, alone, joined, byOrder, enter, enterAll}
+use Rattle.crossed_sort.specs.Sort.{goesFirst}
+use Rattle.oce_model.proofs.Order.{order-equal}
+use Rattle.crossed_bounds.specs.Groups.{Group, members, alone, joined, byOrder, enter, enterAll, KeysBehind, KeysAscend}
+use Rattle.crossed_bounds.proofs.Groups.{behind-less, enterAll-ascends, enterAll-append}
 use Rattle.crossed_bounds.specs.CrossedBounds.{memberExternal, memberKey, groupFaults, groupsFaults}
 use Rattle.crossed_members.specs.Members.{memberJoins, joining}
 use Rattle.crossed_buckets.specs.Buckets.{bucketOf, empty, oneInner, severalInner, oneExternal, crowded, noted, memberBucket, afterMember, known, isCrowded, crowdedBelow, crowdedMembers}
 use Rattle.crossed_domains.specs.Runs.{runs}
 use Rattle.crossed_domains.proofs.Runs.{runs-sorted}
-use Rattle.crossed_domains.proofs.Existing.{Above, Ascending, above-below, enterAll-ascending}
-use Rattle.crossed_domains.proofs.Whole.{enterAll-append}
 
 -- ---- groups of a test on their keys
 
@@ -46,7 +45,7 @@ module _ (key : ℕ → List ℕ) (p : List ℕ → Bool) where
       go Greater f h = rw h
 
   -- x's key is below all groups
-  enter-first : (x : ℕ) (gs : List Group) → Above key (key x) gs → enter key x (passing gs) ≡ alone x ∷ passing gs
+  enter-first : (x : ℕ) (gs : List Group) → KeysBehind key (key x) gs → enter key x (passing gs) ≡ alone x ∷ passing gs
   unfolding enter keep
   enter-first x [] a = refl
   enter-first x (g ∷ gs) a = go (p (key (g .first))) (enter-first x gs (a .1))
@@ -56,7 +55,7 @@ module _ (key : ℕ → List ℕ) (p : List ℕ → Bool) where
       go false h = h
 
   -- a member whose key passes enters them as it enters all
-  enter-passing : (x : ℕ) (gs : List Group) → p (key x) ≡ true → Ascending key gs → passing (enter key x gs) ≡ enter key x (passing gs)
+  enter-passing : (x : ℕ) (gs : List Group) → p (key x) ≡ true → KeysAscend key gs → passing (enter key x gs) ≡ enter key x (passing gs)
   unfolding enter keep
   enter-passing x [] e a = rw e
   enter-passing x (g ∷ gs) e a = go (order (key x) (key (g .first))) (p (key (g .first))) refl refl (enter-passing x gs e (a .1))
@@ -64,7 +63,7 @@ module _ (key : ℕ → List ℕ) (p : List ℕ → Bool) where
       go : (o : Ordering) (t : Bool) → order (key x) (key (g .first)) ≡ o → p (key (g .first)) ≡ t → passing (enter key x gs) ≡ enter key x (passing gs)
           → passing (byOrder o (alone x ∷ g ∷ gs) (joined g x ∷ gs) (g ∷ enter key x gs)) ≡ enter key x (cond t (g ∷ passing gs) (passing gs))
       go Less true f i h = rw (e, i, f)
-      go Less false f i h = rw (e, i) (sym (enter-first x gs (above-below key (key x) (key (g .first)) gs f (a .0))))
+      go Less false f i h = rw (e, i) (sym (enter-first x gs (behind-less key (key x) (key (g .first)) gs f (a .0))))
       go Equal t f i h =
           let z : p (key (g .first)) ≡ true = rw (← order-equal (key x) (key (g .first)) f) e in
           let y : t ≡ true = sym i ∙ z in
@@ -196,7 +195,7 @@ module _ (m : Model) where
       pass = passing (memberKey m) (inCrowd n)
 
       go : (t u : Bool) → inCrowd n (memberKey m i) ≡ u → enterAll (memberKey m) (pass (entered i)) (only (t && u) i) ≡ pass (enterAll (memberKey m) (entered i) (only t i))
-      go true true e = sym (enter-passing (memberKey m) (inCrowd n) i (entered i) e (enterAll-ascending (memberKey m) [] (joining m i) tt))
+      go true true e = sym (enter-passing (memberKey m) (inCrowd n) i (entered i) e (enterAll-ascends (memberKey m) [] (joining m i) tt))
       go true false e = sym (enter-dropped (memberKey m) (inCrowd n) i (entered i) e)
       go false u e = refl
 
@@ -227,6 +226,6 @@ module _ (m : Model) where
       go false e h = rw (told-faults (known m n (bucketOf (memberKey m (g .first)))) g (a .0) e) h
 
   -- crowded members alone give the same report as all that take part
-  pub crowded-faults : (n : ℕ) → groupsFaults m (runs (memberKey m) (sorted (first (memberKey m)) (crowdedMembers m n))) ≡ groupsFaults m (runs (memberKey m) (sorted (first (memberKey m)) (joining m n)))
+  pub crowded-faults : (n : ℕ) → groupsFaults m (runs (memberKey m) (sorted (goesFirst (memberKey m)) (crowdedMembers m n))) ≡ groupsFaults m (runs (memberKey m) (sorted (goesFirst (memberKey m)) (joining m n)))
   crowded-faults n =
       rw (runs-sorted (memberKey m) (crowdedMembers m n), runs-sorted (memberKey m) (joining m n), crowded-groups n n) (passing-faults n (entered n) (told n))

@@ -6,52 +6,15 @@ use Prim.Native.Nat.{ℕ}
 use Rattle.oce_model.specs.Texts.{order, isEqual}
 use Rattle.oce_model.specs.declared.Ordering.{Ordering}
 use Rattle.oce_model.specs.declared.Ordering.the-variants.{Less, Equal, Greater}
-use Rattle.image_texts.proofs.Order.{order-flip, flip, order-equal, less-less}
-use Rattle.crossed_bounds.specs.Groups.{Group, members, alone, joined, byOrder, enter, enterAll, extend, extendAll}
+use Rattle.oce_model.proofs.Order.{order-equal}
+use Rattle.crossed_bounds.specs.Groups.{Group, members, alone, joined, byOrder, enter, enterAll, extend, extendAll, KeysBehind, KeysAscend}
+use Rattle.crossed_bounds.proofs.Groups.{behind-less, enter-ascends}
 use Rattle.base.specs.Lists.{any}
 use Rattle.base.proofs.Lists.{any-append}
 use Rattle.oce_model.specs.Model.{Model}
 use Rattle.crossed_bounds.specs.CrossedBounds.{memberExternal, groupFaults, groupsFaults}
 
 module _ (key : ℕ → List ℕ) where
-  -- every group's key is above k
-  abbrev pub Above : List ℕ → List Group → Type 0
-  Above k [] = Unit {0}
-  Above k (g ∷ gs) = (order k (key (g .first)) ≡ Less) × Above k gs
-
-  abbrev pub Ascending : List Group → Type 0
-  Ascending [] = Unit {0}
-  Ascending (g ∷ gs) = Above (key (g .first)) gs × Ascending gs
-
-  pub above-below : (j k : List ℕ) (gs : List Group) → order j k ≡ Less → Above k gs → Above j gs
-  above-below j k [] e a = tt
-  above-below j k (g ∷ gs) e a = (less-less j k (key (g .first)) e (a .0), above-below j k gs e (a .1))
-
-  above-enter : (k : List ℕ) (x : ℕ) (gs : List Group) → order k (key x) ≡ Less → Above k gs → Above k (enter key x gs)
-  unfolding enter
-  above-enter k x [] e a = (e, tt)
-  above-enter k x (g ∷ gs) e a = go (order (key x) (key (g .first))) (above-enter k x gs e (a .1))
-    where
-      go : (o : Ordering) → Above k (enter key x gs) → Above k (byOrder o (alone x ∷ g ∷ gs) (joined g x ∷ gs) (g ∷ enter key x gs))
-      go Less f = (e, a)
-      go Equal f = a
-      go Greater f = (a .0, f)
-
-  pub enter-ascending : (x : ℕ) (gs : List Group) → Ascending gs → Ascending (enter key x gs)
-  unfolding enter
-  enter-ascending x [] a = (tt, tt)
-  enter-ascending x (g ∷ gs) a = go (order (key x) (key (g .first))) refl (enter-ascending x gs (a .1))
-    where
-      go : (o : Ordering) → order (key x) (key (g .first)) ≡ o → Ascending (enter key x gs) → Ascending (byOrder o (alone x ∷ g ∷ gs) (joined g x ∷ gs) (g ∷ enter key x gs))
-      go Less e f = ((e, above-below (key x) (key (g .first)) gs e (a .0)), a)
-      go Equal e f = a
-      go Greater e f = (above-enter (key (g .first)) x gs (order-flip (key x) (key (g .first)) ∙ ap flip e) (a .0), f)
-
-  pub enterAll-ascending : (gs : List Group) (xs : List ℕ) → Ascending gs → Ascending (enterAll key gs xs)
-  unfolding enterAll
-  enterAll-ascending gs [] a = a
-  enterAll-ascending gs (x ∷ xs) a = enterAll-ascending (enter key x gs) xs (enter-ascending x gs a)
-
   module _ (external : ℕ → Bool) where
     abbrev Idle : Group → Type 0
     Idle g = any external (members g) ≡ false
@@ -75,27 +38,27 @@ module _ (key : ℕ → List ℕ) where
     idle-joined g x e i = any-append external (members g) (x ∷ []) ∙ rw (i, e)
 
     -- x's key is below all groups
-    extend-none : (x : ℕ) {fs hs : List Group} → Above (key x) hs → Sub fs hs → extend key x fs ≡ fs
+    extend-none : (x : ℕ) {fs hs : List Group} → KeysBehind key (key x) hs → Sub fs hs → extend key x fs ≡ fs
     unfolding extend
     extend-none x a none = refl
     extend-none x a (both {g} s) = rw (a .0) (ap (_∷_ g) (extend-none x (a .1) s))
     extend-none x a (skip i s) = extend-none x (a .1) s
 
-    extend-sub : (x : ℕ) → external x ≡ false → {fs hs : List Group} → Ascending hs → Sub fs hs → Sub (extend key x fs) (enter key x hs)
+    extend-sub : (x : ℕ) → external x ≡ false → {fs hs : List Group} → KeysAscend key hs → Sub fs hs → Sub (extend key x fs) (enter key x hs)
     unfolding extend enter
     extend-sub x e a none = skip (idle-alone x e) none
     extend-sub x e a (both {g} {fs} {hs} s) = go (order (key x) (key (g .first))) refl (extend-sub x e (a .1) s)
       where
         go : (o : Ordering) → order (key x) (key (g .first)) ≡ o → Sub (extend key x fs) (enter key x hs)
             → Sub (cond (isEqual o) (joined g x ∷ fs) (g ∷ extend key x fs)) (byOrder o (alone x ∷ g ∷ hs) (joined g x ∷ hs) (g ∷ enter key x hs))
-        go Less f r = rw (extend-none x (above-below (key x) (key (g .first)) hs f (a .0)) s) (skip (idle-alone x e) (both s))
+        go Less f r = rw (extend-none x (behind-less key (key x) (key (g .first)) hs f (a .0)) s) (skip (idle-alone x e) (both s))
         go Equal f r = both s
         go Greater f r = both r
     extend-sub x e a (skip {g} {fs} {hs} i s) = go (order (key x) (key (g .first))) refl (extend-sub x e (a .1) s)
       where
         go : (o : Ordering) → order (key x) (key (g .first)) ≡ o → Sub (extend key x fs) (enter key x hs)
             → Sub (extend key x fs) (byOrder o (alone x ∷ g ∷ hs) (joined g x ∷ hs) (g ∷ enter key x hs))
-        go Less f r = rw (extend-none x (above-below (key x) (key (g .first)) hs f (a .0)) s) (skip (idle-alone x e) (skip i s))
+        go Less f r = rw (extend-none x (behind-less key (key x) (key (g .first)) hs f (a .0)) s) (skip (idle-alone x e) (skip i s))
         go Equal f r =
             let k : key x ≡ key (g .first) = order-equal (key x) (key (g .first)) f in
             rw (extend-none x (rw k (a .0)) s) (skip (idle-joined g x e i) s)
@@ -106,10 +69,10 @@ module _ (key : ℕ → List ℕ) where
     AllIdle [] = Unit {0}
     AllIdle (x ∷ xs) = (external x ≡ false) × AllIdle xs
 
-    extendAll-sub : (xs : List ℕ) (fs hs : List Group) → AllIdle xs → Ascending hs → Sub fs hs → Sub (extendAll key fs xs) (enterAll key hs xs)
+    extendAll-sub : (xs : List ℕ) (fs hs : List Group) → AllIdle xs → KeysAscend key hs → Sub fs hs → Sub (extendAll key fs xs) (enterAll key hs xs)
     unfolding extendAll enterAll
     extendAll-sub [] fs hs i a s = s
-    extendAll-sub (x ∷ xs) fs hs i a s = extendAll-sub xs (extend key x fs) (enter key x hs) (i .1) (enter-ascending x hs a) (extend-sub x (i .0) a s)
+    extendAll-sub (x ∷ xs) fs hs i a s = extendAll-sub xs (extend key x fs) (enter key x hs) (i .1) (enter-ascends key x hs a) (extend-sub x (i .0) a s)
 
 -- ---- a model's groups
 
@@ -125,7 +88,7 @@ module _ (key : ℕ → List ℕ) (m : Model) where
   sub-faults (skip {g} i s) = rw (idle-faults g i) (sub-faults s)
 
   -- adding idle members to existing groups only, or letting them open groups too
-  pub extended-faults : (gs : List Group) (xs : List ℕ) → AllIdle key (memberExternal m) xs → Ascending key gs
+  pub extended-faults : (gs : List Group) (xs : List ℕ) → AllIdle key (memberExternal m) xs → KeysAscend key gs
       → groupsFaults m (extendAll key gs xs) ≡ groupsFaults m (enterAll key gs xs)
   extended-faults gs xs i a = sub-faults (extendAll-sub key (memberExternal m) xs gs gs i a (sub-same key (memberExternal m) gs))
 

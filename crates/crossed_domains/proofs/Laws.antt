@@ -23,10 +23,10 @@ use Rattle.oce_diag.proofs.Putting.{put-none}
 use Rattle.image_accept.specs.Layout.{Laid}
 use Rattle.image_accept.specs.declared.Layout.{Layout}
 use Rattle.image_records.proofs.Laws.{connectors-counted, inputs-counted, connectors-few, boundary-inputs-few}
-use Rattle.image_texts.proofs.Order.{equal-same}
-use Rattle.sorting.specs.Sort.{put, putAll, sorted}
+use Rattle.oce_model.proofs.Order.{equal-same}
+use Rattle.sorting.specs.Sort.{insert, insertAll, sorted}
 use Rattle.sorting.proofs.Laws.{sorted-length}
-use Rattle.crossed_sort.specs.Sort.{keyOf, first}
+use Rattle.crossed_sort.specs.Sort.{keyOf, goesFirst}
 use Rattle.crossed_bounds.specs.Ranges.{crossed, uncrossed, takeIn}
 use Rattle.crossed_bounds.specs.CrossedBounds.{memberIri, memberExternal, memberKey, groups, groupsFaults}
 use Rattle.crossed_bounds.specs.declared.Range.{Range}
@@ -108,29 +108,29 @@ module _ (n : ℕ) where
   below-only false x h = tt
 
   module _ (key : ℕ → List ℕ) where
-    below-put : (x : ℕ) (xs : List ℕ) → x < n → Below n xs → Below n (put (first key) x xs)
-    unfolding put
-    below-put x [] h a = (h, tt)
-    below-put x (y ∷ ys) h a = arm (first key x y) (below-put x ys h (a .1))
+    below-insert : (x : ℕ) (xs : List ℕ) → x < n → Below n xs → Below n (insert (goesFirst key) x xs)
+    unfolding insert
+    below-insert x [] h a = (h, tt)
+    below-insert x (y ∷ ys) h a = arm (goesFirst key x y) (below-insert x ys h (a .1))
       where
-        arm : (t : Bool) → Below n (put (first key) x ys) → Below n (cond t (x ∷ y ∷ ys) (y ∷ put (first key) x ys))
+        arm : (t : Bool) → Below n (insert (goesFirst key) x ys) → Below n (cond t (x ∷ y ∷ ys) (y ∷ insert (goesFirst key) x ys))
         arm true b = (h, a)
         arm false b = (a .0, b)
 
-    below-putAll : (l xs : List ℕ) → Below n l → Below n xs → Below n (putAll (first key) l xs)
-    unfolding putAll
-    below-putAll l [] a b = a
-    below-putAll l (x ∷ xs) a b = below-putAll (put (first key) x l) xs (below-put x l (b .0) a) (b .1)
+    below-insertAll : (l xs : List ℕ) → Below n l → Below n xs → Below n (insertAll (goesFirst key) l xs)
+    unfolding insertAll
+    below-insertAll l [] a b = a
+    below-insertAll l (x ∷ xs) a b = below-insertAll (insert (goesFirst key) x l) xs (below-insert x l (b .0) a) (b .1)
 
-  sorted-members : (key : ℕ → List ℕ) (xs : List ℕ) → Below n xs → AllMembers n (sorted (first key) xs)
-  sorted-members key xs b = record { at = λ i h. below-at (sorted (first key) xs) i (below-putAll key [] xs tt b) h }
+  sorted-members : (key : ℕ → List ℕ) (xs : List ℕ) → Below n xs → AllMembers n (sorted (goesFirst key) xs)
+  sorted-members key xs b = record { at = λ i h. below-at (sorted (goesFirst key) xs) i (below-insertAll key [] xs tt b) h }
 
-module _ (key : ℕ → List ℕ) (xs : List ℕ) {ys : List ℕ} (e : ys ≡ sorted (first key) xs) where
+module _ (key : ℕ → List ℕ) (xs : List ℕ) {ys : List ℕ} (e : ys ≡ sorted (goesFirst key) xs) where
   pub members-sorted : (n : ℕ) → Below n xs → AllMembers n ys
   members-sorted n b = rw e (sorted-members n key xs b)
 
   pub length-sorted : length ys ≡ length xs
-  length-sorted = rw e (sorted-length (first key) xs)
+  length-sorted = rw e (sorted-length (goesFirst key) xs)
 
 crowded-below : (m : Model) (n k : ℕ) → k ≤ n → Below n (crowdedBelow m n k)
 unfolding crowdedBelow each
@@ -173,8 +173,8 @@ module _ {s : List ℕ} {l : Layout} (h : Laid s l) where
   unfolding memberKey
   key-is e = fun-ext (λ x. rw e (ap (text (modelOf s)) (iri-is x)))
 
-  pub sorted-key : (xs : List ℕ) {iri ys : List ℕ} → iri ≡ tab (memberCount l) (memberIri (modelOf s)) → ys ≡ sorted (first (keyOf s iri)) xs → ys ≡ sorted (first (memberKey (modelOf s))) xs
-  sorted-key xs e f = f ∙ ap (λ k. sorted (first k) xs) (key-is e)
+  pub sorted-key : (xs : List ℕ) {iri ys : List ℕ} → iri ≡ tab (memberCount l) (memberIri (modelOf s)) → ys ≡ sorted (goesFirst (keyOf s iri)) xs → ys ≡ sorted (goesFirst (memberKey (modelOf s))) xs
+  sorted-key xs e f = f ∙ ap (λ k. sorted (goesFirst k) xs) (key-is e)
 
 -- ---- the whole rule
 
@@ -187,7 +187,7 @@ module _ {s : List ℕ} {l : Layout} (h : Laid s l) where
     pub collected-below : Below (memberCount l) xs
     collected-below = rw e (crowded-below (modelOf s) (memberCount l) (memberCount l) (omega arith))
 
-    pub collected-faults : {b b′ : List ℕ} {c r : Counted} → Put b c (groupsFaults (modelOf s) (runs (memberKey (modelOf s)) (sorted (first (memberKey (modelOf s))) xs))) b′ r
+    pub collected-faults : {b b′ : List ℕ} {c r : Counted} → Put b c (groupsFaults (modelOf s) (runs (memberKey (modelOf s)) (sorted (goesFirst (memberKey (modelOf s))) xs))) b′ r
         → Put b c (groupsFaults (modelOf s) (groups (modelOf s))) b′ r
     collected-faults p = rw (e, crowded-faults (modelOf s) (memberCount l), sorted-faults (modelOf s) counted) at p
 

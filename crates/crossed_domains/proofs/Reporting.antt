@@ -23,7 +23,7 @@ use Rattle.crossed_bounds.specs.declared.Range.{Range}
 use Rattle.crossed_bounds.proofs.Combined.{combined-more}
 use Rattle.crossed_members.specs.Members.{memberRange}
 use Rattle.crossed_domains.specs.Runs.{runsFrom, runs}
-use Rattle.crossed_domains.specs.Pass.{opened, grown, isReported, passFaults, sameKey, AllMembers, Small, Stepped}
+use Rattle.crossed_domains.specs.Pass.{opened, grown, isReported, passFaults, sameKey, AllMembers, PassFits, Stepped}
 use Rattle.crossed_domains.specs.declared.Pass.{Pass}
 
 or-none : (t : Bool) → (t || false) ≡ t
@@ -179,7 +179,7 @@ module _ {m : Model} {n : ℕ} {xs b₀ : List ℕ} {c₀ : Counted} {b : List �
 
   -- c was counted before the first group
   module _ {c : Counted} (o : c₀ ≡ c) where
-    pub passed-small : Countable (length xs) c → length xs < shortRange → Small p
+    pub passed-small : Countable (length xs) c → length xs < shortRange → PassFits p
     passed-small k h =
         let l : Countable (length xs) c₀ = rw o k in
         record { few = omega (arith, v .few, v .begun, v .within); members = omega (arith, v .more, v .within) }

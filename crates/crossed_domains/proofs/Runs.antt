@@ -7,10 +7,10 @@ use native.Mathlib.Omega.{arith}
 use Rattle.oce_model.specs.Texts.{order, isLess, isEqual}
 use Rattle.oce_model.specs.declared.Ordering.{Ordering}
 use Rattle.oce_model.specs.declared.Ordering.the-variants.{Less, Equal, Greater}
-use Rattle.image_texts.proofs.Order.{order-flip, flip, order-equal}
-use Rattle.sorting.specs.Sort.{put, putAll, sorted, Rising, InOrder}
-use Rattle.sorting.proofs.Sorted.{put-in-order}
-use Rattle.crossed_sort.specs.Sort.{first}
+use Rattle.oce_model.proofs.Order.{order-flip, flip, order-equal}
+use Rattle.sorting.specs.Sort.{insert, insertAll, sorted, Rising, InOrder}
+use Rattle.sorting.proofs.Sorted.{insert-in-order}
+use Rattle.crossed_sort.specs.Sort.{goesFirst}
 use Rattle.crossed_sort.proofs.Sorted.{key-orders}
 use Rattle.crossed_bounds.specs.Groups.{Group, alone, joined, byOrder, enter, enterAll}
 use Rattle.crossed_domains.specs.Runs.{runsFrom, runs}
@@ -31,14 +31,14 @@ module _ (key : ℕ → List ℕ) where
       go false f = rw e
 
   -- an order goes by the key alone
-  rising-key : {x y : ℕ} (ys : List ℕ) → key x ≡ key y → Rising (first key) y ys → Rising (first key) x ys
+  rising-key : {x y : ℕ} (ys : List ℕ) → key x ≡ key y → Rising (goesFirst key) y ys → Rising (goesFirst key) x ys
   rising-key [] e r = tt
   rising-key (z ∷ zs) e r = (rw e (r .0), r .1)
 
   -- x isn't before the open run
-  enter-behind : (xs : List ℕ) (g : Group) (x : ℕ) → isLess (order (key x) (key (g .first))) ≡ false → Rising (first key) (g .first) xs
-      → runsFrom key g (put (first key) x xs) ≡ enter key x (runsFrom key g xs)
-  unfolding put enter runsFrom
+  enter-behind : (xs : List ℕ) (g : Group) (x : ℕ) → isLess (order (key x) (key (g .first))) ≡ false → Rising (goesFirst key) (g .first) xs
+      → runsFrom key g (insert (goesFirst key) x xs) ≡ enter key x (runsFrom key g xs)
+  unfolding insert enter runsFrom
   enter-behind [] g x h r = go (order (key x) (key (g .first))) (order-flip (key x) (key (g .first))) h
     where
       go : (o : Ordering) → order (key (g .first)) (key x) ≡ flip o → isLess o ≡ false
@@ -50,13 +50,13 @@ module _ (key : ℕ → List ℕ) where
       go (order (key (g .first)) (key y)) (order (key x) (key (g .first))) (order (key x) (key y)) refl refl refl (enter-behind ys (joined g y) x) (enter-behind ys (alone y) x)
     where
       go : (p q o : Ordering) → order (key (g .first)) (key y) ≡ p → order (key x) (key (g .first)) ≡ q → order (key x) (key y) ≡ o
-          → (isLess (order (key x) (key (g .first))) ≡ false → Rising (first key) (g .first) ys → runsFrom key (joined g y) (put (first key) x ys) ≡ enter key x (runsFrom key (joined g y) ys))
-          → (isLess (order (key x) (key y)) ≡ false → Rising (first key) y ys → runsFrom key (alone y) (put (first key) x ys) ≡ enter key x (runsFrom key (alone y) ys))
-          → runsFrom key g (cond (isLess o) (x ∷ y ∷ ys) (y ∷ put (first key) x ys)) ≡ enter key x (cond (isEqual p) (runsFrom key (joined g y) ys) (g ∷ runsFrom key (alone y) ys))
+          → (isLess (order (key x) (key (g .first))) ≡ false → Rising (goesFirst key) (g .first) ys → runsFrom key (joined g y) (insert (goesFirst key) x ys) ≡ enter key x (runsFrom key (joined g y) ys))
+          → (isLess (order (key x) (key y)) ≡ false → Rising (goesFirst key) y ys → runsFrom key (alone y) (insert (goesFirst key) x ys) ≡ enter key x (runsFrom key (alone y) ys))
+          → runsFrom key g (cond (isLess o) (x ∷ y ∷ ys) (y ∷ insert (goesFirst key) x ys)) ≡ enter key x (cond (isEqual p) (runsFrom key (joined g y) ys) (g ∷ runsFrom key (alone y) ys))
       go Greater q o P Q O f k = no (sym (r .0) ∙ rw (order-flip (key (g .first)) (key y), P))
       go Equal q o P Q O f k = same (order-equal (key (g .first)) (key y) P)
         where
-          same : key (g .first) ≡ key y → runsFrom key g (cond (isLess o) (x ∷ y ∷ ys) (y ∷ put (first key) x ys)) ≡ enter key x (runsFrom key (joined g y) ys)
+          same : key (g .first) ≡ key y → runsFrom key g (cond (isLess o) (x ∷ y ∷ ys) (y ∷ insert (goesFirst key) x ys)) ≡ enter key x (runsFrom key (joined g y) ys)
           same e =
               let n : isLess o ≡ false = rw (← O, ← e) h in
               rw (n, P) (f h (rising-key ys e (r .1)))
@@ -72,22 +72,22 @@ module _ (key : ℕ → List ℕ) where
       go Less Greater Equal P Q O f k = rw (P, Q) (ap (_∷_ g) (k (rw O) (r .1)))
       go Less Greater Greater P Q O f k = rw (P, Q) (ap (_∷_ g) (k (rw O) (r .1)))
 
-  runs-put : (x : ℕ) (xs : List ℕ) → InOrder (first key) xs → runs key (put (first key) x xs) ≡ enter key x (runs key xs)
-  unfolding runs put enter runsFrom
-  runs-put x [] r = refl
-  runs-put x (y ∷ ys) r = go (order (key x) (key y)) refl
+  runs-insert : (x : ℕ) (xs : List ℕ) → InOrder (goesFirst key) xs → runs key (insert (goesFirst key) x xs) ≡ enter key x (runs key xs)
+  unfolding runs insert enter runsFrom
+  runs-insert x [] r = refl
+  runs-insert x (y ∷ ys) r = go (order (key x) (key y)) refl
     where
-      go : (o : Ordering) → order (key x) (key y) ≡ o → runs key (cond (isLess o) (x ∷ y ∷ ys) (y ∷ put (first key) x ys)) ≡ enter key x (runsFrom key (alone y) ys)
+      go : (o : Ordering) → order (key x) (key y) ≡ o → runs key (cond (isLess o) (x ∷ y ∷ ys) (y ∷ insert (goesFirst key) x ys)) ≡ enter key x (runsFrom key (alone y) ys)
       go Less e = rw e (sym (enter-front ys (alone y) x e))
       go Equal e = enter-behind ys (alone y) x (rw e) r
       go Greater e = enter-behind ys (alone y) x (rw e) r
 
-  runs-putAll : (l xs : List ℕ) → InOrder (first key) l → runs key (putAll (first key) l xs) ≡ enterAll key (runs key l) xs
-  unfolding putAll enterAll
-  runs-putAll l [] r = refl
-  runs-putAll l (x ∷ xs) r = rw (← runs-put x l r) (runs-putAll (put (first key) x l) xs (put-in-order (first key) (key-orders key) x l r))
+  runs-insertAll : (l xs : List ℕ) → InOrder (goesFirst key) l → runs key (insertAll (goesFirst key) l xs) ≡ enterAll key (runs key l) xs
+  unfolding insertAll enterAll
+  runs-insertAll l [] r = refl
+  runs-insertAll l (x ∷ xs) r = rw (← runs-insert x l r) (runs-insertAll (insert (goesFirst key) x l) xs (insert-in-order (goesFirst key) (key-orders key) x l r))
 
   -- the runs of the sorted records are the groups that the records enter one by one
-  pub runs-sorted : (xs : List ℕ) → runs key (sorted (first key) xs) ≡ enterAll key [] xs
+  pub runs-sorted : (xs : List ℕ) → runs key (sorted (goesFirst key) xs) ≡ enterAll key [] xs
   unfolding runs
-  runs-sorted xs = runs-putAll [] xs tt
+  runs-sorted xs = runs-insertAll [] xs tt

@@ -9,18 +9,14 @@ use Rattle.base.specs.Lists.{each, tab, only, below}
 use Rattle.base.proofs.Lists.{each-add, each-same, below-each}
 use Rattle.oce_model.specs.Model.{Model, connector, connectorCount, boundaryInputCount, isConnector}
 use Rattle.sorting.specs.Sort.{sorted}
-use Rattle.crossed_sort.specs.Sort.{first}
-use Rattle.crossed_bounds.specs.Groups.{Group, enter, enterAll}
-use Rattle.crossed_bounds.specs.CrossedBounds.{memberExternal, memberKey, joins, groups, groupsFaults}
+use Rattle.crossed_sort.specs.Sort.{goesFirst}
+use Rattle.crossed_bounds.specs.Groups.{enterAll}
+use Rattle.crossed_bounds.proofs.Groups.{enterAll-ascends, enterAll-append}
+use Rattle.crossed_bounds.specs.CrossedBounds.{memberExternal, memberKey, joins, connectorMembers, inputMembers, groups, groupsFaults}
 use Rattle.crossed_members.specs.Members.{memberJoins, joining}
 use Rattle.crossed_domains.specs.Runs.{runs}
 use Rattle.crossed_domains.proofs.Runs.{runs-sorted}
-use Rattle.crossed_domains.proofs.Existing.{AllIdle, enterAll-ascending, extended-faults, none-external}
-
-pub enterAll-append : (key : ℕ → List ℕ) (gs : List Group) (xs ys : List ℕ) → enterAll key gs (xs ++ ys) ≡ enterAll key (enterAll key gs xs) ys
-unfolding enterAll
-enterAll-append key gs [] ys = refl
-enterAll-append key gs (x ∷ xs) ys = enterAll-append key (enter key x gs) xs ys
+use Rattle.crossed_domains.proofs.Existing.{AllIdle, extended-faults, none-external}
 
 idle-append : (key : ℕ → List ℕ) (external : ℕ → Bool) (xs ys : List ℕ) → AllIdle key external xs → AllIdle key external ys → AllIdle key external (xs ++ ys)
 idle-append key external [] ys i j = j
@@ -39,7 +35,7 @@ module _ (m : Model) where
 
   -- the members that take part: connectors, then all boundary inputs
   joining-split : joining m (connectorCount m + boundaryInputCount m)
-      ≡ each (connectorCount m) (λ i. only (joins (connector m i)) i) ++ tab (boundaryInputCount m) (λ i. connectorCount m + i)
+      ≡ connectorMembers m ++ inputMembers m
   unfolding joining memberJoins
   joining-split =
       each-add (connectorCount m) (boundaryInputCount m) (λ x. only (cond (isConnector m x) (joins (connector m x)) true) x)
@@ -49,16 +45,16 @@ module _ (m : Model) where
 
   -- the runs of the sorted members
   pub sorted-faults : {n : ℕ} → n ≡ connectorCount m + boundaryInputCount m
-      → groupsFaults m (runs (memberKey m) (sorted (first (memberKey m)) (joining m n))) ≡ groupsFaults m (groups m)
+      → groupsFaults m (runs (memberKey m) (sorted (goesFirst (memberKey m)) (joining m n))) ≡ groupsFaults m (groups m)
   unfolding groups
   sorted-faults {n} e =
-      let xs = each (connectorCount m) (λ i. only (joins (connector m i)) i) in
-      let ys = tab (boundaryInputCount m) (λ i. connectorCount m + i) in
+      let xs = connectorMembers m in
+      let ys = inputMembers m in
       let t : joining m n ≡ xs ++ ys = ap (joining m) e ∙ joining-split in
-      let r : runs (memberKey m) (sorted (first (memberKey m)) (joining m n)) ≡ enterAll (memberKey m) (enterAll (memberKey m) [] xs) ys =
+      let r : runs (memberKey m) (sorted (goesFirst (memberKey m)) (joining m n)) ≡ enterAll (memberKey m) (enterAll (memberKey m) [] xs) ys =
       runs-sorted (memberKey m) (joining m n) ∙ rw t (enterAll-append (memberKey m) [] xs ys) in
       ap (groupsFaults m) r
-      ∙ sym (extended-faults (memberKey m) m (enterAll (memberKey m) [] xs) ys (inputs-idle (boundaryInputCount m)) (enterAll-ascending (memberKey m) [] xs tt))
+      ∙ sym (extended-faults (memberKey m) m (enterAll (memberKey m) [] xs) ys (inputs-idle (boundaryInputCount m)) (enterAll-ascends (memberKey m) [] xs tt))
 
   -- none of the connectors is external, so nothing is reported
   pub quiet : below (connectorCount m) (memberExternal m) ≡ false → groupsFaults m (groups m) ≡ []

@@ -37,6 +37,7 @@ grown p e r = record { counted = p .counted; first = p .first; members = p .memb
 unfoldable pub isReported : Pass → Bool
 isReported p = p .external && ltb 1 (p .members) && crossed (p .kept)
 
+-- what is reported of it
 unfoldable pub passFaults : Model → Pass → List Diagnostic
 passFaults m p = only (isReported p) (error CrossedBounds 5 4 (Text (memberIri m (p .first))) (p .members))
 
@@ -49,11 +50,12 @@ abbrev pub Below : ℕ → List ℕ → Type 0
 Below n [] = Unit {0}
 Below n (x ∷ xs) = (x < n) × Below n xs
 
+-- the same, by index
 pub record AllMembers (n : ℕ) (xs : List ℕ) : Type 0 where
   pub at : (i : ℕ) → i < length xs → getD xs i 0 < n
 
 -- what is counted fits
-pub record Small (p : Pass) : Type 0 where
+pub record PassFits (p : Pass) : Type 0 where
   pub few : Countable 1 (p .counted)
   pub members : p .members < shortRange
 

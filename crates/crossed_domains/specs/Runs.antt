@@ -11,6 +11,7 @@ module _ (key : ℕ → List ℕ) where
   runsFrom g [] = g ∷ []
   runsFrom g (x ∷ xs) = cond (isEqual (order (key (g .first)) (key x))) (runsFrom (joined g x) xs) (g ∷ runsFrom (alone x) xs)
 
+  -- the runs of a list
   unfoldable pub runs : List ℕ → List Group
   runs [] = []
   runs (x ∷ xs) = runsFrom (alone x) xs

@@ -35,10 +35,9 @@ ghost use Rattle.crossed_bounds.specs.CrossedBounds.{memberIri, memberKey, grou
 ghost use Rattle.crossed_members.specs.Members.{memberCount, isMember};
 ghost use Rattle.crossed_buckets.specs.Buckets.{crowdedMembers};
 ghost use Rattle.crossed_domains.specs.Runs.{runs};
-ghost use Rattle.crossed_domains.specs.Pass.{fewMembers, opened, grown, isReported, passFaults, sameKey, AllMembers, Below, Small, Stepped};
+ghost use Rattle.crossed_domains.specs.Pass.{fewMembers, opened, grown, isReported, passFaults, sameKey, AllMembers, Below, PassFits, Stepped};
 
-// The most members that an image has: those of the table's last column, of connectors and of boundary
-// inputs.
+// The most members that an image has: connectors and boundary inputs.
 const MOST_MEMBERS: usize = MOST_CONNECTORS + MOST_BOUNDARY_INPUTS;
 
 // So many have shorter arrays, which are sooner cleared.
@@ -117,7 +116,7 @@ fn to_report(p: Pass) -> bool
 
 // Reports it, where that is to be.
 fn close(image: &[u8], layout: Layout, p: Pass, report: &mut [u8]) -> Counted
-    requires { ⌜ Laid (now image) layout × isMember layout (p .first) × Small p ⌝ }
+    requires { ⌜ Laid (now image) layout × isMember layout (p .first) × PassFits p ⌝ }
     ensures { λ r. ⌜ Put (now (report .entry)) (p .counted) (passFaults (modelOf (now (image .entry))) p) (now (report .exit)) r × Adds 1 (p .counted) r ⌝ }
 {
     let counted = p.counted;
@@ -159,7 +158,7 @@ fn step<'a>(
     x: usize,
     report: &mut [u8],
 ) -> Pass
-    requires { ⌜ Laid (now image) layout × Tabled textTag (now image) (now texts) × Listed (modelOf (now image)) (now externals) × isMember layout (p .first) × isMember layout x × Small p ⌝ }
+    requires { ⌜ Laid (now image) layout × Tabled textTag (now image) (now texts) × Listed (modelOf (now image)) (now externals) × isMember layout (p .first) × isMember layout x × PassFits p ⌝ }
     ensures { λ r. ⌜ Stepped (modelOf (now (image .entry))) p x (now (report .entry)) (now (report .exit)) r ⌝ }
 {
     let external = member_external(image, layout, externals, x);

@@ -12,7 +12,7 @@ use Rattle.base.proofs.Lists.{below-next, below-some}
 use Rattle.oce_model.specs.Format.{dirIn, noText}
 use Rattle.oce_model.specs.Attributes.{Attrs}
 use Rattle.oce_model.specs.Model.{Model, modelOf, connector, boundaryInput, isConnector}
-use Rattle.oce_model.specs.declared.Connector.{Connector}
+use Rattle.oce_model.specs.declared.ConnectorFront.{ConnectorFront}
 use Rattle.image_accept.specs.Layout.{Laid}
 use Rattle.image_accept.specs.declared.Layout.{Layout}
 use Rattle.image_records.specs.Records.{connectorRead}
@@ -38,7 +38,7 @@ module _ {s : List ℕ} {l : Layout} (h : Laid s l) {x : ℕ} where
     unfolding memberAttrs
     attrs-connector e = rw inside e
 
-    module _ {c : Connector} (e : c ≡ connectorRead (connector (modelOf s) x)) where
+    module _ {c : ConnectorFront} (e : c ≡ connectorRead (connector (modelOf s) x)) where
       pub iri-connector : c .iri ≡ memberIri (modelOf s) x
       unfolding memberIri connectorRead
       iri-connector = rw inside (ap (λ r. r .iri) e)
@@ -75,8 +75,8 @@ module _ {s : List ℕ} {l : Layout} (h : Laid s l) {x : ℕ} where
     unfolding memberJoins
     joins-input = rw outside
 
-pub range-is : (m : Model) (x : ℕ) {a : Attrs} {r : Range} → a ≡ memberAttrs m x → r ≡ rangeOf m a → r ≡ memberRange m x
-range-is m x e f = f ∙ ap (rangeOf m) e
+pub range-is : (m : Model) (x : ℕ) {a : Attrs} {r : Range} → a ≡ memberAttrs m x → r ≡ rangeOf (m .defaults) a → r ≡ memberRange m x
+range-is m x e f = f ∙ ap (rangeOf (m .defaults)) e
 
 -- ---- one that is external
 

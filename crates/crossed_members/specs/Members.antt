@@ -9,15 +9,17 @@ use Rattle.crossed_bounds.specs.Ranges.{rangeOf}
 use Rattle.crossed_bounds.specs.CrossedBounds.{memberAttrs, joins}
 use Rattle.crossed_bounds.specs.declared.Range.{Range}
 
--- how many members there are, and that x is one
+-- how many members there are
 abbrev pub memberCount : Layout → ℕ
 memberCount l = l .connectors .count + l .inputs .count
 
+-- x is one
 abbrev pub isMember : Layout → ℕ → Type 0
 isMember l x = x < memberCount l
 
+-- a member's range
 abbrev pub memberRange : Model → ℕ → Range
-memberRange m x = rangeOf m (memberAttrs m x)
+memberRange m x = rangeOf (m .defaults) (memberAttrs m x)
 
 -- an In with an iri, or a boundary input
 unfoldable pub memberJoins : Model → ℕ → Bool

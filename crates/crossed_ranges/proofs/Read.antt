@@ -13,13 +13,13 @@ use borrow.Author.Tests.{eq-eqb, ne-eqb}
 use Rattle.numbers.specs.Bytes.{bit, signed64, real64}
 use Rattle.oce_model.specs.Format.{realKind, integerKind, minBit, maxBit}
 use Rattle.oce_model.specs.Attributes.{Attrs, num, declaredAt, marked}
-use Rattle.oce_model.specs.Model.{Model, modelOf}
+use Rattle.oce_model.specs.Model.{Defaults, modelOf}
 use Rattle.oce_model.specs.declared.RealAttrs.{RealAttrs}
 use Rattle.oce_model.specs.declared.IntAttrs.{IntAttrs}
 use Rattle.image_accept.specs.Layout.{Laid, layoutOf}
 use Rattle.image_accept.specs.declared.Layout.{Layout}
 use Rattle.image_records.specs.Records.{realAttrs, intAttrs}
-use Rattle.crossed_bounds.specs.Ranges.{finiteEnd, endOf, realRange, integerRange, orDefault, rangeOf}
+use Rattle.crossed_bounds.specs.Ranges.{finiteEnd, realEnd, realRange, integerRange, orDefault, rangeOf}
 use Rattle.crossed_bounds.specs.declared.End.{End}
 use Rattle.crossed_bounds.specs.declared.End.the-variants.{Value}
 use Rattle.crossed_bounds.specs.declared.Bounds.the-variants.{Real, Integer}
@@ -56,7 +56,7 @@ module _ (a : RealAttrs) {l h x : Bool} (L : l ≡ bit (a .marks) minBit) (H : h
     real-ends f p q = rw (p, q, ← L, ← H, ← X, e, ← Y, f)
 
 real-same : (a : Attrs) → realRead (realAttrs a) ≡ realRange (declaredAt a minBit) (declaredAt a maxBit)
-unfolding realRead realAttrs declaredAt realRange finiteEnd endOf
+unfolding realRead realAttrs declaredAt realRange finiteEnd realEnd
 real-same a = arm (bit (a .marks) minBit) (bit (a .marks) maxBit)
   where
     p : ℕ
@@ -81,9 +81,9 @@ unfolding integerRead
 integer-ends a min max L H p q A B C D F G =
     rw (toZ-ofZ F, toZ-ofZ G, ← L, ← H, rw (toZ-ofZ A, toZ-ofZ C) at p, rw (toZ-ofZ B, toZ-ofZ D) at q)
 
-integer-same : (m : Model) (a : Attrs) → integerRead (intAttrs a) (m .integerMin) (m .integerMax) ≡ integerRange m (declaredAt a minBit) (declaredAt a maxBit)
+integer-same : (d : Defaults) (a : Attrs) → integerRead (intAttrs a) (d .min) (d .max) ≡ integerRange d (declaredAt a minBit) (declaredAt a maxBit)
 unfolding integerRead intAttrs declaredAt integerRange
-integer-same m a = rw (arm (bit (a .marks) minBit) (num a minBit) (m .integerMin), arm (bit (a .marks) maxBit) (num a maxBit) (m .integerMax))
+integer-same d a = rw (arm (bit (a .marks) minBit) (num a minBit) (d .min), arm (bit (a .marks) maxBit) (num a maxBit) (d .max))
   where
     arm : (b : Bool) (v : ℕ) (d : ℤ) → cond b (signed64 v) d ≡ orDefault (marked b v) d
     arm true v d = refl
@@ -92,18 +92,18 @@ integer-same m a = rw (arm (bit (a .marks) minBit) (num a minBit) (m .integerMin
 -- ---- any kind
 
 module _ (s : List ℕ) (a : Attrs) {k : ℕ} (K : k ≡ a .kind) where
-  pub range-real : {x : RealAttrs} {r : Range} → k ≡ realKind → r ≡ realRead x → x ≡ realAttrs a → r ≡ rangeOf (modelOf s) a
+  pub range-real : {x : RealAttrs} {r : Range} → k ≡ realKind → r ≡ realRead x → x ≡ realAttrs a → r ≡ rangeOf (modelOf s .defaults) a
   unfolding rangeOf
   range-real e f g = rw (eq-eqb (a .kind) realKind (sym K ∙ e)) (f ∙ rw g (real-same a))
 
   module _ (o : k ≢ realKind) where
     pub range-integer : {l : Layout} {x : IntAttrs} {r : Range} → Laid s l → k ≡ integerKind → r ≡ integerRead x (back (l .min)) (back (l .max)) → x ≡ intAttrs a
-        → SFits w64 (l .min) → SFits w64 (l .max) → r ≡ rangeOf (modelOf s) a
+        → SFits w64 (l .min) → SFits w64 (l .max) → r ≡ rangeOf (modelOf s .defaults) a
     unfolding rangeOf layoutOf
     range-integer h e f g x y =
         rw (ne-eqb (a .kind) realKind (λ q. o (K ∙ q)), eq-eqb (a .kind) integerKind (sym K ∙ e))
-        ((rw (toZ-ofZ x, toZ-ofZ y, g) at f) ∙ rw (h .layout) (integer-same (modelOf s) a))
+        ((rw (toZ-ofZ x, toZ-ofZ y, g) at f) ∙ rw (h .layout) (integer-same (modelOf s .defaults) a))
 
-    pub range-none : k ≢ integerKind → Absent ≡ rangeOf (modelOf s) a
+    pub range-none : k ≢ integerKind → Absent ≡ rangeOf (modelOf s .defaults) a
     unfolding rangeOf
     range-none p = rw (ne-eqb (a .kind) realKind (λ q. o (K ∙ q)), ne-eqb (a .kind) integerKind (λ q. p (K ∙ q)))

@@ -23,11 +23,13 @@ abbrev pub endFine : Bool → Float → Bool
 endFine true x = finite x
 endFine false x = true
 
+-- the range of Real attributes
 unfoldable pub realRead : RealAttrs → Range
 realRead a =
     let low = bit (a .marks) minBit in
     let high = bit (a .marks) maxBit in
     cond (endFine low (a .min) && endFine high (a .max)) (Within (Real (endRead low (a .min)) (endRead high (a .max)))) Absent
 
+-- the range of Integer attributes, by the head's defaults
 unfoldable pub integerRead : IntAttrs → ℤ → ℤ → Range
 integerRead a min max = Within (Integer (cond (bit (a .marks) minBit) (a .min) min) (cond (bit (a .marks) maxBit) (a .max) max))

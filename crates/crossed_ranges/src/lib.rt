@@ -242,7 +242,7 @@ pub fn integer_range(a: IntAttrs, min: i64, max: i64) -> Range
 // The range of the attributes at an offset, whatever their kind; `Range::Absent` where they have none.
 pub fn range_of(image: &[u8], layout: Layout, at: usize) -> Range
     requires { ⌜ Laid (now image) layout × (at ≤ longestImage + connectorAttrs) × (at + attrsLength ≤ length (now image)) ⌝ }
-    ensures { λ r. ⌜ r ≡ rangeOf (modelOf (now (image .entry))) (attrsAt (now (image .entry)) at) ⌝ }
+    ensures { λ r. ⌜ r ≡ rangeOf (modelOf (now (image .entry)) .defaults) (attrsAt (now (image .entry)) at) ⌝ }
 {
     let kind = attrs_kind(image, at);
     if kind == REAL_KIND {

@@ -8,8 +8,8 @@ use Rattle.base.specs.Lists.{each, only}
 use Rattle.numbers.specs.Bytes.{shortRange, wordRange}
 use Rattle.oce_model.specs.Attributes.{Attrs}
 use Rattle.oce_model.specs.Model.{Model, modelOf, connector, boundaryInput, boundaryOutput}
-use Rattle.oce_model.specs.declared.Connector.{Connector}
-use Rattle.oce_model.specs.declared.BoundaryOutput.{BoundaryOutput}
+use Rattle.oce_model.specs.declared.ConnectorFront.{ConnectorFront}
+use Rattle.oce_model.specs.declared.BoundaryOutputFront.{BoundaryOutputFront}
 use Rattle.oce_diag.specs.Diagnostics.{connectorSubject, subjectOf, error}
 use Rattle.oce_diag.specs.Putting.{total, Put, Emits}
 use Rattle.oce_diag.specs.declared.Counted.{Counted}
@@ -23,9 +23,8 @@ use Rattle.image_accept.specs.declared.Layout.{Layout}
 use Rattle.image_records.specs.Records.{connectorRead, outputRead}
 use Rattle.image_records.proofs.Laws.{connectors-counted, inputs-counted, outputs-counted, connectors-few, boundary-inputs-few, boundary-outputs-few}
 use Rattle.crossed_bounds.specs.Ranges.{rangeOf, crossed}
-use Rattle.crossed_bounds.specs.CrossedBounds.{crossedFaults, groups, groupsFaults, rule5}
+use Rattle.crossed_bounds.specs.CrossedBounds.{crossedFaults, connectorCrossed, inputCrossed, outputCrossed, groups, groupsFaults, rule5}
 use Rattle.crossed_bounds.specs.declared.Range.{Range}
-use Rattle.crossed_records.specs.Details.{connectorCrossed, inputCrossed, outputCrossed}
 
 -- ---- one record
 
@@ -34,12 +33,12 @@ pub error-put : (t : Bool) (detail : ℕ) (subject : Subject) (i : ℕ) {d : Dia
 error-put t detail subject i p e = rw (← e) p
 
 pub crossed-put : (m : Model) (detail : ℕ) (subject : Subject) (i : ℕ) (a : Attrs) {r : Range} {t : Bool} {b b′ : List ℕ} {c c′ : Counted} → Put b c (only t (error CrossedBounds 5 detail subject i)) b′ c′
-    → t ≡ crossed r → r ≡ rangeOf m a → Put b c (crossedFaults m detail subject i a) b′ c′
+    → t ≡ crossed r → r ≡ rangeOf (m .defaults) a → Put b c (crossedFaults m detail subject i a) b′ c′
 unfolding crossedFaults
 crossed-put m detail subject i a p f g = rw (← g, ← f) p
 
 module _ (m : Model) (i : ℕ) {a : Attrs} {b b′ : List ℕ} {c c′ : Counted} where
-  pub connector-put : {u : Subject} {k : Connector} → Put b c (crossedFaults m 1 u i a) b′ c′ → u ≡ connectorSubject (k .iri) (k .id) → k ≡ connectorRead (connector m i) → a ≡ connector m i .attrs
+  pub connector-put : {u : Subject} {k : ConnectorFront} → Put b c (crossedFaults m 1 u i a) b′ c′ → u ≡ connectorSubject (k .iri) (k .id) → k ≡ connectorRead (connector m i) → a ≡ connector m i .attrs
       → Put b c (connectorCrossed m i) b′ c′
   unfolding connectorCrossed subjectOf connectorRead
   connector-put {u} p e f g =
@@ -50,7 +49,7 @@ module _ (m : Model) (i : ℕ) {a : Attrs} {b b′ : List ℕ} {c c′ : Counted
   unfolding inputCrossed
   input-put p e g = rw (← e, ← g) p
 
-  pub output-put : {o : BoundaryOutput} → Put b c (crossedFaults m 3 (Text (o .iri)) i a) b′ c′ → o ≡ outputRead (boundaryOutput m i) → a ≡ boundaryOutput m i .attrs → Put b c (outputCrossed m i) b′ c′
+  pub output-put : {o : BoundaryOutputFront} → Put b c (crossedFaults m 3 (Text (o .iri)) i a) b′ c′ → o ≡ outputRead (boundaryOutput m i) → a ≡ boundaryOutput m i .attrs → Put b c (outputCrossed m i) b′ c′
   unfolding outputCrossed outputRead
   output-put {o} p e g =
       let z : o .iri ≡ boundaryOutput m i .iri = ap (λ k. k .iri) e in
@@ -79,5 +78,5 @@ pub rule5-put : {s : List ℕ} {l : Layout} {b₀ b₁ b₂ b₃ b₄ : List ℕ
     → Put b₂ c₂ (each (l .outputs .count) (outputCrossed (modelOf s))) b₃ c₃
     → Put b₃ c₃ (groupsFaults (modelOf s) (groups (modelOf s))) b₄ c₄
     → Put b₀ c₀ (rule5 (modelOf s)) b₄ c₄
-unfolding rule5 connectorCrossed inputCrossed outputCrossed
+unfolding rule5
 rule5-put h p q r u = rw (connectors-counted h, inputs-counted h, outputs-counted h) at (put-then (put-then (put-then p q) r) u)

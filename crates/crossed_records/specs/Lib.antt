@@ -1,2 +1,2 @@
--- Rule 5 record by record.
-pub mod Details
+-- How much rule 5 may report.
+pub mod Most

@@ -25,8 +25,8 @@ ghost use Rattle.oce_diag.specs.declared.DiagCode.the-variants.{CrossedBounds};
 ghost use Rattle.oce_diag.specs.Putting.{Put, Countable, Adds};
 ghost use Rattle.image_accept.specs.Layout.{Laid, Tabled};
 ghost use Rattle.structural_externals.specs.Columns.{Listed};
-ghost use Rattle.crossed_bounds.specs.CrossedBounds.{rule5};
-ghost use Rattle.crossed_records.specs.Details.{connectorCrossed, inputCrossed, outputCrossed, mostCrossed};
+ghost use Rattle.crossed_bounds.specs.CrossedBounds.{connectorCrossed, inputCrossed, outputCrossed, rule5};
+ghost use Rattle.crossed_records.specs.Most.{mostCrossed};
 
 // Reports a range that is crossed: the Rust's `report`.
 fn put_crossed(

@@ -1,9 +1,10 @@
--- Decimal numbers as bytes. Document 01, 'The printed report': 'numbers are decimal'.
+-- Decimal numbers as bytes. FORMAT 8 and 19.
 use Prim.Native.Nat.{ℕ, zero, suc, _+_, _-_, _*_, _/_, _%_}
 use mathlib.Core.Bool.{cond}
 use mathlib.Core.List.{List, [], _∷_, _++_}
 use lib.Dec.{ltb}
 
+-- the base
 abbrev pub ten : ℕ
 ten = 10
 
@@ -11,6 +12,7 @@ ten = 10
 abbrev pub digitZero : ℕ
 digitZero = 0x30
 
+-- the byte of a digit
 abbrev pub digit : ℕ → ℕ
 digit d = digitZero + d
 

@@ -2,6 +2,7 @@
 use base::copy_at;
 use image_accept::Layout;
 use image_accept::Section;
+use numbers::SHORT_RANGE_U64;
 use numbers::write16;
 use numbers::write64;
 use oce_model::ATTRS_MIN_AT;
@@ -52,9 +53,9 @@ fn store_texts(filled: &mut [u8], at: usize, slots: usize, table: &[u64], j: usi
     let quantity = number(slots, table, j, QUANTITY_BIT);
     let unit = number(slots, table, j, UNIT_BIT);
     let display = number(slots, table, j, DISPLAY_UNIT_BIT);
-    write16(filled, at, (quantity % 65536) as u16);
-    write16(filled, at + 2, (unit % 65536) as u16);
-    write16(filled, at + 4, (display % 65536) as u16);
+    write16(filled, at, (quantity % SHORT_RANGE_U64) as u16);
+    write16(filled, at + 2, (unit % SHORT_RANGE_U64) as u16);
+    write16(filled, at + 4, (display % SHORT_RANGE_U64) as u16);
 }
 
 // Its numbers of 64 bits.

@@ -26,10 +26,10 @@ use Rattle.image_framing.specs.declared.Found.{Found}
 use Rattle.image_framing.specs.declared.Found.the-variants.{At, Nothing}
 use Rattle.image_framing.specs.declared.Framed.{Framed}
 use Rattle.image_framing.specs.declared.Framed.the-variants.{Cut, Whole}
-use Rattle.image_accept.specs.Layout.{Laid, Listed, Tabled, acceptance, accepts, layoutOf, offsetsOf}
+use Rattle.image_accept.specs.Layout.{Laid, TabledIfAccepted, Tabled, acceptance, accepts, layoutOf, offsetsOf}
 use Rattle.image_sieve.specs.Faulty.{atFault}
 use Rattle.image_accept.specs.Sections.{Tagged, verdictOf}
-use Rattle.image_accept.specs.Sifting.{Framing, Lists, Surveys, faulty}
+use Rattle.image_accept.specs.Sifting.{WellFramed, TabledIfFine, Surveys, faulty}
 use Rattle.image_accept.specs.declared.Acceptance.{Acceptance}
 use Rattle.image_accept.specs.declared.Acceptance.the-variants.{Refused, Accepted}
 use Rattle.image_accept.specs.declared.Layout.{Layout}
@@ -109,7 +109,7 @@ later : (s : List ℕ) (o : Option ℕ) → shortestImage ≤ length s → lengt
 unfolding refusal refusalsFrom fault
 later s o g l h q = rw (le-ltb (length s) shortestImage g, le-ltb longestImage (length s) l, h, q)
 
-tagged-framing : {s : List ℕ} → shortestImage ≤ length s → Tagged s → Framing s
+tagged-framing : {s : List ℕ} → shortestImage ≤ length s → Tagged s → WellFramed s
 tagged-framing {s} g v =
     let e : length s ≤ stop s = omega (arith, v .ended .ends) in
     record { tagged = v; same = later s none g (v .ended .short) (le-ltb (stop s) (length s) e) (v .tags) }
@@ -159,7 +159,7 @@ module _ (s : List ℕ) where
       pub refused-bad : {at : ℕ} {bad : Found} → r ≡ Whole bad → bad ≡ At at → Away 3 at ≡ verdictOf (refusal s)
       refused-bad {at} h b = sym (ap verdictOf (later s (some at) g l (whole-bad h .0) (found-some (first badTag (fields s)) at (sym b ∙ whole-bad h .1))))
 
-      pub whole-framing : {bad : Found} → r ≡ Whole bad → bad ≡ Nothing → Framing s
+      pub whole-framing : {bad : Found} → r ≡ Whole bad → bad ≡ Nothing → WellFramed s
       whole-framing h b = tagged-framing g (whole-tagged h b l)
 
 -- ---- no field at fault
@@ -218,7 +218,7 @@ module _ (s : List ℕ) {n at : ℕ} (e : Away n at ≡ verdictOf (refusal s)) w
   unfolding acceptance
   answer-refused = sym (verdict-some s (refusal s) n at e)
 
-  pub table-refused : (t : ℕ) (table : List ℕ) → Listed t s table
+  pub table-refused : (t : ℕ) (table : List ℕ) → TabledIfAccepted t s table
   table-refused t table = record { listed = λ h. absurd (some-not s (refusal s) n at e h) }
 
 module _ (s : List ℕ) (e : refusal s ≡ none) where
@@ -236,17 +236,17 @@ tabled-own t s table w = record { offsets = w ∙ own (offsetsOf t s) table ∙ 
 -- ---- the tables of an image that refusals 1 to 3 turn away
 
 module _ (t : ℕ) (s table : List ℕ) where
-  pub short-table : length s < shortestImage → Listed t s table
+  pub short-table : length s < shortestImage → TabledIfAccepted t s table
   short-table h = table-refused s (too-short s h) t table
 
-  pub long-table : shortestImage ≤ length s → longestImage < length s → Listed t s table
+  pub long-table : shortestImage ≤ length s → longestImage < length s → TabledIfAccepted t s table
   long-table g h = table-refused s (too-long s g h) t table
 
   module _ {r : Framed} (e : r ≡ framed s) (g : shortestImage ≤ length s) (l : length s ≤ longestImage) where
-    pub cut-table : {at : ℕ} → r ≡ Cut at → Listed t s table
+    pub cut-table : {at : ℕ} → r ≡ Cut at → TabledIfAccepted t s table
     cut-table h = table-refused s (refused-cut s e g l h) t table
 
-    pub bad-table : {at : ℕ} {bad : Found} → r ≡ Whole bad → bad ≡ At at → Listed t s table
+    pub bad-table : {at : ℕ} {bad : Found} → r ≡ Whole bad → bad ≡ At at → TabledIfAccepted t s table
     bad-table h b = table-refused s (refused-bad s e g l h b) t table
 
 -- ---- the answer for an image with good tags
@@ -254,7 +254,7 @@ module _ (t : ℕ) (s table : List ℕ) where
 pub survey-answer : {s : List ℕ} {r : Surveyed} → Surveys s r → r .fine ≡ true → shortestImage ≤ length s → Accepted (r .layout) ≡ acceptance s
 survey-answer {s} w h g = answer-accepted s (tagged-framing g (w .tagged h) .same ∙ clean-fields s (w .clean h)) (w .layout h)
 
-module _ {s : List ℕ} (v : Framing s) where
+module _ {s : List ℕ} (v : WellFramed s) where
   module _ {r : Verdict} (e : r ≡ verdictOf (refusalsFrom 5 4 s (fields s))) where
     away : {n at : ℕ} → r ≡ Away n at → Away n at ≡ verdictOf (refusal s)
     away h = sym h ∙ e ∙ sym (ap verdictOf (v .same))
@@ -262,16 +262,16 @@ module _ {s : List ℕ} (v : Framing s) where
     pub fields-refused : {n at : ℕ} → r ≡ Away n at → Refused n at ≡ acceptance s
     fields-refused h = answer-refused s (away h)
 
-    pub fields-table : {n at : ℕ} (t : ℕ) (table : List ℕ) → r ≡ Away n at → Listed t s table
+    pub fields-table : {n at : ℕ} (t : ℕ) (table : List ℕ) → r ≡ Away n at → TabledIfAccepted t s table
     fields-table t table h = table-refused s (away h) t table
 
     pub fields-accepted : r ≡ Fine → refusal s ≡ none
     fields-accepted h = v .same ∙ verdict-none (refusalsFrom 5 4 s (fields s)) (sym h ∙ e)
 
-pub survey-table : {t : ℕ} {s : List ℕ} {r : Surveyed} {table : List ℕ} → Surveys s r → Lists t s (r .fine) table → r .fine ≡ true → Listed t s table
+pub survey-table : {t : ℕ} {s : List ℕ} {r : Surveyed} {table : List ℕ} → Surveys s r → TabledIfFine t s (r .fine) table → r .fine ≡ true → TabledIfAccepted t s table
 survey-table w v h = record { listed = λ _. v .lists h (w .tagged h) }
 
-pub layout-table : (t : ℕ) (s table : List ℕ) {table′ : List ℕ} → table′ ≡ startsWith (offsetsOf t s) table → Listed t s table′
+pub layout-table : (t : ℕ) (s table : List ℕ) {table′ : List ℕ} → table′ ≡ startsWith (offsetsOf t s) table → TabledIfAccepted t s table′
 layout-table t s table w = record { listed = λ _. tabled-own t s table w }
 
 -- ---- what later readers are given
@@ -285,5 +285,5 @@ module _ {s : List ℕ} {a : Acceptance} {l : Layout} (e : a ≡ acceptance s) (
   unfolding acceptance
   accepted-laid = laid-of s (refusal s) l refl (sym h ∙ e)
 
-  pub accepted-tabled : {t : ℕ} {table : List ℕ} → Listed t s table → Tabled t s table
+  pub accepted-tabled : {t : ℕ} {table : List ℕ} → TabledIfAccepted t s table → Tabled t s table
   accepted-tabled v = v .listed (accepted-laid .accepted)

@@ -23,7 +23,7 @@ use Rattle.oce_model.proofs.Fields.{first-here, first-later}
 use Rattle.image_framing.specs.Walk.{Ended, Walking, after, endOf, from, placed, start}
 use Rattle.image_framing.proofs.Walks.{walk-end, walk-fits, walk-start, walk-step}
 use Rattle.image_accept.specs.Layout.{offsetsOf, sectionOf}
-use Rattle.image_accept.specs.Sections.{Begins, Passed, Tagged, reaches}
+use Rattle.image_accept.specs.Sections.{Begins, PassedSection, Tagged, reaches}
 
 -- ---- tags that don't fall
 
@@ -220,7 +220,7 @@ module _ {t : ℕ} {s : List ℕ} {n : ℕ} {f : Field} (v : Counting t s n f) w
   all-passed : ofTag t (v .rest) ≡ [] → offsetsOf t s ≡ v .offsets
   all-passed e = v .all ∙ ap (λ r. v .offsets ++ map (λ (f : Field). f .at) r) e ∙ append-nil (v .offsets)
 
-  passed : {f₀ : Field} → Begins t s f₀ → ofTag t (v .rest) ≡ [] → (f .at < length s → t + 1 ≤ f .tag) → Passed t s (record { records = record { start = f₀ .at; count = n }; next = f })
+  passed : {f₀ : Field} → Begins t s f₀ → ofTag t (v .rest) ≡ [] → (f .at < length s → t + 1 ≤ f .tag) → PassedSection t s (record { records = record { start = f₀ .at; count = n }; next = f })
   unfolding sectionOf offsetsOf
   passed b e low =
       let k : n ≡ length (ofTag t (fields s)) = v .count ∙ ap length (sym (all-passed e)) ∙ length-map (ofTag t (fields s)) (λ (f : Field). f .at) in
@@ -237,10 +237,10 @@ module _ {t : ℕ} {s : List ℕ} {n : ℕ} {f : Field} (v : Counting t s n f) w
         };
       }
 
-  pub counting-past : {f₀ : Field} → Begins t s f₀ → f .at < length s → f .tag ≢ t → Passed t s (record { records = record { start = f₀ .at; count = n }; next = f })
+  pub counting-past : {f₀ : Field} → Begins t s f₀ → f .at < length s → f .tag ≢ t → PassedSection t s (record { records = record { start = f₀ .at; count = n }; next = f })
   counting-past b h o = passed b (gone-past h o) (λ h. let l = v .low h in omega arith)
 
-  pub counting-end : {f₀ : Field} → Begins t s f₀ → length s ≤ f .at → Passed t s (record { records = record { start = f₀ .at; count = n }; next = f })
+  pub counting-end : {f₀ : Field} → Begins t s f₀ → length s ≤ f .at → PassedSection t s (record { records = record { start = f₀ .at; count = n }; next = f })
   counting-end b h = passed b (gone-end h) (λ l. absurd (omega arith))
 
 -- ---- writing a table

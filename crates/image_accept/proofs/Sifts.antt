@@ -26,8 +26,8 @@ use Rattle.image_framing.proofs.Finds.{Seeking, seeking-start, seeking-turn}
 use Rattle.image_framing.proofs.Walks.{walk-end, walk-start, walk-step, walk-stop}
 use Rattle.image_sieve.specs.Faulty.{atFault}
 use Rattle.image_accept.specs.Layout.{layoutOf, sectionOf}
-use Rattle.image_accept.specs.Sections.{Passed, Tagged, fixedOf}
-use Rattle.image_accept.specs.Sifting.{Clean, Entered, Entering, Fixes, Follows, Leading, Lists, Quiet, Ready, Rising, Sifts, Surveys, faulty}
+use Rattle.image_accept.specs.Sections.{PassedSection, Tagged, fixedOf}
+use Rattle.image_accept.specs.Sifting.{CleanSection, Entered, Entering, Fixes, Follows, AtStart, TabledIfFine, NoFaultBefore, ReadyFor, RisingTags, Sifts, Surveys, faulty}
 use Rattle.image_accept.specs.declared.Rest.{Rest}
 use Rattle.image_accept.specs.declared.Section.{Section}
 use Rattle.image_accept.specs.declared.Sifted.{Sifted}
@@ -36,13 +36,13 @@ use Rattle.image_accept.proofs.Runs.{Counting, Tabling, after-prev, beg
 
 -- ---- none at fault
 
-seeks : {s : List ℕ} {f : Field} → Quiet s f → Seeking (faulty s) s f
+seeks : {s : List ℕ} {f : Field} → NoFaultBefore s f → Seeking (faulty s) s f
 seeks q = record { rest = q .rest; walk = q .walk; same = q .same }
 
-quiets : {s : List ℕ} {f : Field} → Seeking (faulty s) s f → Quiet s f
+quiets : {s : List ℕ} {f : Field} → Seeking (faulty s) s f → NoFaultBefore s f
 quiets q = record { rest = q .rest; walk = q .walk; same = q .same }
 
-pub quiet-end : {s : List ℕ} {f : Field} → Quiet s f → length s ≤ f .at → first (faulty s) (fields s) ≡ none
+pub quiet-end : {s : List ℕ} {f : Field} → NoFaultBefore s f → length s ≤ f .at → first (faulty s) (fields s) ≡ none
 unfolding first
 quiet-end {s} q h = q .same ∙ ap (first (faulty s)) (walk-end (q .walk) h)
 
@@ -81,8 +81,8 @@ start-prev : (s : List ℕ) → start s .prev ≡ 0
 unfolding start placed fieldAt
 start-prev s = refl
 
-module _ {t : ℕ} {s : List ℕ} {f : Field} (v : Rising t s f) where
-  pub rising-turn : {g : Field} → t ≤ highestTag → f .at < length s → f .tag ≡ t → endOf f ≤ length s → g ≡ after s f → g .len < 65536 → Rising t s g
+module _ {t : ℕ} {s : List ℕ} {f : Field} (v : RisingTags t s f) where
+  pub rising-turn : {g : Field} → t ≤ highestTag → f .at < length s → f .tag ≡ t → endOf f ≤ length s → g ≡ after s f → g .len < 65536 → RisingTags t s g
   unfolding badTag
   rising-turn {g} top h tag fits e l =
       let k = walk-step (v .walk) h fits e in
@@ -99,7 +99,7 @@ module _ {t : ℕ} {s : List ℕ} {f : Field} (v : Rising t s f) where
         short = v .short;
       }
 
-  rising-next : Rising (t + 1) s f
+  rising-next : RisingTags (t + 1) s f
   rising-next = record {
     rest = v .rest;
     walk = v .walk;
@@ -120,7 +120,7 @@ module _ {t : ℕ} {s : List ℕ} {f : Field} (v : Rising t s f) where
 -- count fields with the tag t are passed, and none is at fault
 pub record Sieved (t n : ℕ) (s : List ℕ) (count : ℕ) (f : Field) : Type 0 where
   pub counts : Counting t s count f
-  pub quiet : Quiet s f
+  pub quiet : NoFaultBefore s f
   pub knows : textTag < t → n ≡ length (ofTag textTag (fields s))
 
 sieved-start : {t n : ℕ} {s : List ℕ} {f : Field} → Entered t n s f → Sieved t n s 0 f
@@ -136,7 +136,7 @@ sieved-turn {t} {n} {s} {count} {f} v h tag a u e = record {
 
 -- the same in an image of which the end isn't known yet
 pub record Sieving (t n : ℕ) (s : List ℕ) (count : ℕ) (f : Field) : Type 0 where
-  pub rising : Rising t s f
+  pub rising : RisingTags t s f
   pub few : count ≤ f .at
   pub sieved : Tagged s → Sieved t n s count f
 
@@ -186,13 +186,13 @@ module _ {t n : ℕ} {s table₀ : List ℕ} {count : ℕ} {table : List ℕ} {f
     tables = λ w. tabling-put (v .tables w) (omega (arith, v .long)) h tag e;
   }
 
-  pub listing-past : f .at < length s → f .tag ≢ t → Lists t s true table
+  pub listing-past : f .at < length s → f .tag ≢ t → TabledIfFine t s true table
   listing-past h o = record { lists = λ _ w. tabled-own t s table₀ (table-past (v .tables w) h o) }
 
-  pub listing-end : length s ≤ f .at → Lists t s true table
+  pub listing-end : length s ≤ f .at → TabledIfFine t s true table
   listing-end h = record { lists = λ _ w. tabled-own t s table₀ (table-end (v .tables w) h) }
 
-pub listing-fault : (t : ℕ) (s table : List ℕ) → Lists t s false table
+pub listing-fault : (t : ℕ) (s table : List ℕ) → TabledIfFine t s false table
 listing-fault t s table = record { lists = λ h. absurd (false≢true h) }
 
 -- ---- the head
@@ -200,12 +200,12 @@ listing-fault t s table = record { lists = λ h. absurd (false≢true h) }
 entered-first : {s : List ℕ} {f : Field} → Tagged s → f ≡ start s → Entered headTag 0 s f
 entered-first v e = record { begins = begins-first v e; quiet = quiets (seeking-start e); count = λ h. absurd (omega arith) }
 
-pub leading-first : {s : List ℕ} {f : Field} → f ≡ start s → f .len < 65536 → length s ≤ longestImage → Leading s f
+pub leading-first : {s : List ℕ} {f : Field} → f ≡ start s → f .len < 65536 → length s ≤ longestImage → AtStart s f
 unfolding start placed fieldAt
 leading-first e l short = record { is = e; low = ap (λ (f : Field). f .at) e; few = walk-start e .few; small = l; short = short }
 
-module _ {s : List ℕ} {f : Field} (v : Leading s f) (fits : endOf f ≤ length s) (tag : f .tag ≡ headTag) where
-  head-rising : {g : Field} → g ≡ after s f → g .len < 65536 → Rising textTag s g
+module _ {s : List ℕ} {f : Field} (v : AtStart s f) (fits : endOf f ≤ length s) (tag : f .tag ≡ headTag) where
+  head-rising : {g : Field} → g ≡ after s f → g .len < 65536 → RisingTags textTag s g
   unfolding badTag
   head-rising {g} a l =
       let k = walk-step (walk-start (v .is)) (omega arith) fits a in
@@ -221,7 +221,7 @@ module _ {s : List ℕ} {f : Field} (v : Leading s f) (fits : endOf f ≤ length
         short = v .short;
       }
 
-  head-clean : {b : Bool} {g : Field} → b ≡ atFault 0 s f → b ≡ false → g ≡ after s f → Tagged s → Clean headTag s (record { fine = true; records = record { start = f .at; count = 1 }; next = g })
+  head-clean : {b : Bool} {g : Field} → b ≡ atFault 0 s f → b ≡ false → g ≡ after s f → Tagged s → CleanSection headTag s (record { fine = true; records = record { start = f .at; count = 1 }; next = g })
   unfolding badTag
   head-clean {g = g} a u n w =
       let b = entered-first w (v .is) in
@@ -229,7 +229,7 @@ module _ {s : List ℕ} {f : Field} (v : Leading s f) (fits : endOf f ≤ length
       let prev : g .prev ≡ headTag = ap (λ (f : Field). f .prev) n ∙ after-prev s f ∙ tag in
       record { passed = arm b k prev (decLt (g .at) (length s)); quiet = k .quiet }
     where
-      arm : {g : Field} → Entered headTag 0 s f → Sieved headTag 0 s 1 g → g .prev ≡ headTag → Dec (g .at < length s) → Passed headTag s (record { records = record { start = f .at; count = 1 }; next = g })
+      arm : {g : Field} → Entered headTag 0 s f → Sieved headTag 0 s 1 g → g .prev ≡ headTag → Dec (g .at < length s) → PassedSection headTag s (record { records = record { start = f .at; count = 1 }; next = g })
       arm {g} b k prev (yes h) = counting-past (k .counts) (b .begins) h (one-head (g .tag) (g .prev) prev (left-next (k .counts .left) h refl .good))
       arm {g} b k prev (no h) = counting-end (k .counts) (b .begins) (omega arith)
 
@@ -239,7 +239,7 @@ module _ {s : List ℕ} {f : Field} (v : Leading s f) (fits : endOf f ≤ length
 
 -- ---- one section after the other
 
-pub ready-entered : {t n : ℕ} {s : List ℕ} {b : Sifted} → Ready t n s b → b .fine ≡ true → Entering t n s (b .next)
+pub ready-entered : {t n : ℕ} {s : List ℕ} {b : Sifted} → ReadyFor t n s b → b .fine ≡ true → Entering t n s (b .next)
 ready-entered v h = v .ready h
 
 pub follows-fine : {t : ℕ} {s : List ℕ} (b : Sifted) {r : Sifted} → b .fine ≡ true → Sifts t s r → Follows t s b r
@@ -248,10 +248,10 @@ follows-fine b h v = record { earlier = λ _. h; rising = v .rising; clean = v .
 pub follows-fault : (t : ℕ) (s : List ℕ) (b : Sifted) → b .fine ≡ false → Follows t s b b
 follows-fault t s b e = record { earlier = λ h. h; rising = λ h. absurd (false≢true (sym e ∙ h)); clean = λ h. absurd (false≢true (sym e ∙ h)) }
 
-pub lists-fault : (t : ℕ) (s table : List ℕ) (fine : Bool) → fine ≡ false → Lists t s fine table
+pub lists-fault : (t : ℕ) (s table : List ℕ) (fine : Bool) → fine ≡ false → TabledIfFine t s fine table
 lists-fault t s table fine e = record { lists = λ h. absurd (false≢true (sym e ∙ h)) }
 
-pub ready-texts : {s : List ℕ} {r : Sifted} → Sifts headTag s r → Ready textTag 0 s r
+pub ready-texts : {s : List ℕ} {r : Sifted} → Sifts headTag s r → ReadyFor textTag 0 s r
 ready-texts v = record {
   ready = λ h. record {
     rising = v .rising h;
@@ -259,11 +259,11 @@ ready-texts v = record {
   };
 }
 
-counted : {t : ℕ} {s : List ℕ} {r : Sifted} → Clean t s r → r .records .count ≡ length (ofTag t (fields s))
+counted : {t : ℕ} {s : List ℕ} {r : Sifted} → CleanSection t s r → r .records .count ≡ length (ofTag t (fields s))
 unfolding sectionOf
 counted v = ap (λ (r : Section). r .count) (v .passed .records)
 
-pub ready-blocks : {s : List ℕ} {b r : Sifted} → Follows textTag s b r → Ready blockTag (r .records .count) s r
+pub ready-blocks : {s : List ℕ} {b r : Sifted} → Follows textTag s b r → ReadyFor blockTag (r .records .count) s r
 ready-blocks v = record {
   ready = λ h. record {
     rising = v .rising h;
@@ -271,7 +271,7 @@ ready-blocks v = record {
   };
 }
 
-pub ready-next : {t u n : ℕ} {s : List ℕ} {b r : Sifted} → Ready t n s b → Follows t s b r → textTag < t → t + 1 ≡ u → Ready u n s r
+pub ready-next : {t u n : ℕ} {s : List ℕ} {b r : Sifted} → ReadyFor t n s b → Follows t s b r → textTag < t → t + 1 ≡ u → ReadyFor u n s r
 ready-next {s = s} {r = r} w v l e = record {
   ready = λ h. record {
     rising = rw (← e) (v .rising h);
@@ -279,10 +279,10 @@ ready-next {s = s} {r = r} w v l e = record {
   };
 }
 
-pub ready-fine : {t n : ℕ} {s : List ℕ} {b r : Sifted} → Ready t n s b → b .fine ≡ true → Sifts t s r → textTag < t → Ready (t + 1) n s r
+pub ready-fine : {t n : ℕ} {s : List ℕ} {b r : Sifted} → ReadyFor t n s b → b .fine ≡ true → Sifts t s r → textTag < t → ReadyFor (t + 1) n s r
 ready-fine {b = b} w h v l = ready-next w (follows-fine b h v) l refl
 
-pub ready-fault : (t n : ℕ) (s : List ℕ) (b : Sifted) → b .fine ≡ false → Ready t n s b
+pub ready-fault : (t n : ℕ) (s : List ℕ) (b : Sifted) → b .fine ≡ false → ReadyFor t n s b
 ready-fault t n s b e = record { ready = λ h. absurd (false≢true (sym e ∙ h)) }
 
 -- ---- the sections of fixed sizes
@@ -318,10 +318,10 @@ module _ {s : List ℕ} {b u v w x y : Sifted} (l : Follows connectorTag s b u) 
 
 -- ---- the survey
 
-pub lists-texts : {s table : List ℕ} {t b : Sifted} {r : Rest} → Follows blockTag s t b → Fixes s b r → Lists textTag s (t .fine) table → Lists textTag s (r .fine) table
+pub lists-texts : {s table : List ℕ} {t b : Sifted} {r : Rest} → Follows blockTag s t b → Fixes s b r → TabledIfFine textTag s (t .fine) table → TabledIfFine textTag s (r .fine) table
 lists-texts v w l = record { lists = λ h. l .lists (v .earlier (w .earlier h)) }
 
-pub lists-blocks : {s table : List ℕ} {b : Sifted} {r : Rest} → Fixes s b r → Lists blockTag s (b .fine) table → Lists blockTag s (r .fine) table
+pub lists-blocks : {s table : List ℕ} {b : Sifted} {r : Rest} → Fixes s b r → TabledIfFine blockTag s (b .fine) table → TabledIfFine blockTag s (r .fine) table
 lists-blocks w l = record { lists = λ h. l .lists (w .earlier h) }
 
 pub surveys : {s : List ℕ} {d t b : Sifted} {r : Rest} {x y : ℕ} {lo hi : ℤ} → Follows textTag s d t → Follows blockTag s t b → Fixes s b r

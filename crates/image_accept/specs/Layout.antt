@@ -19,6 +19,7 @@ use Rattle.image_accept.specs.declared.Acceptance.the-variants.{Refused,
 unfoldable pub sectionOf : ℕ → List ℕ → Section
 sectionOf t s = record { start = startOf t s; count = length (ofTag t (fields s)) }
 
+-- where all records stand, and the head's Integer defaults
 unfoldable pub layoutOf : List ℕ → Layout
 layoutOf s = record {
   texts = sectionOf textTag s;
@@ -28,24 +29,26 @@ layoutOf s = record {
   externals = sectionOf externalInputTag s;
   inputs = sectionOf boundaryInputTag s;
   outputs = sectionOf boundaryOutputTag s;
-  min = modelOf s .integerMin;
-  max = modelOf s .integerMax;
+  min = modelOf s .defaults .min;
+  max = modelOf s .defaults .max;
 }
 
 -- the offsets of the fields with a tag
 unfoldable pub offsetsOf : ℕ → List ℕ → List ℕ
 offsetsOf t s = map (λ (f : Field). f .at) (ofTag t (fields s))
 
--- what `accept` answers: the refusal's number and offset, or the layout
+-- an answer: the refusal's number and offset, or the layout
 abbrev pub accepts : List ℕ → Option Refusal → Acceptance
 accepts s none = Accepted (layoutOf s)
 accepts s (some r) = Refused (r .number) (r .offset)
 
+-- what `accept` answers
 unfoldable pub acceptance : List ℕ → Acceptance
 acceptance s = accepts s (refusal s)
 
--- ---- what every later reader is given: l is the layout of an accepted image s
+-- ---- what every later reader is given
 
+-- s is accepted, and l is its layout
 pub record Laid (s : List ℕ) (l : Layout) : Type 0 where
   pub accepted : refusal s ≡ none
   pub layout : l ≡ layoutOf s
@@ -55,5 +58,5 @@ pub record Tabled (t : ℕ) (s table : List ℕ) : Type 0 where
   pub offsets : table ≡ startsWith (offsetsOf t s) table
 
 -- a table of offsets after `accept`; of a refused image nothing is said
-pub record Listed (t : ℕ) (s table : List ℕ) : Type 0 where
+pub record TabledIfAccepted (t : ℕ) (s table : List ℕ) : Type 0 where
   pub listed : refusal s ≡ none → Tabled t s table

@@ -37,7 +37,7 @@ pub record Begins (t : ℕ) (s : List ℕ) (f : Field) : Type 0 where
   pub starts : (u : ℕ) → t ≤ u → first (reaches u) rest ≡ first (reaches u) (fields s)
 
 -- the section of the tag t is passed
-pub record Passed (t : ℕ) (s : List ℕ) (r : Run) : Type 0 where
+pub record PassedSection (t : ℕ) (s : List ℕ) (r : Run) : Type 0 where
   pub records : r .records ≡ sectionOf t s
   pub next : Begins (t + 1) s (r .next)
 

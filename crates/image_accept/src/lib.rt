@@ -34,9 +34,9 @@ ghost use Rattle.base.specs.Buffers.{startsWith};
 ghost use Rattle.oce_model.specs.Format.{headTag, textTag, blockTag, connectorTag, highestTag, most, shortestImage, longestImage};
 ghost use Rattle.oce_model.specs.Image.{fields, ofTag};
 ghost use Rattle.oce_model.specs.Refusals.{refusal, refusalsFrom};
-ghost use Rattle.image_accept.specs.Layout.{layoutOf, offsetsOf, acceptance, Listed};
-ghost use Rattle.image_accept.specs.Sections.{Tagged, Begins, Passed, fixedOf, verdictOf};
-ghost use Rattle.image_accept.specs.Sifting.{Leading, Entering, Sifts, Lists, Ready, Follows, Fixes, Surveys, Framing};
+ghost use Rattle.image_accept.specs.Layout.{layoutOf, offsetsOf, acceptance, TabledIfAccepted};
+ghost use Rattle.image_accept.specs.Sections.{Tagged, Begins, PassedSection, fixedOf, verdictOf};
+ghost use Rattle.image_accept.specs.Sifting.{AtStart, Entering, Sifts, TabledIfFine, ReadyFor, Follows, Fixes, Surveys, WellFramed};
 
 // Where the records of a tag begin, and how many there are.
 pub struct Section {
@@ -81,7 +81,7 @@ struct Run {
 // Passes the section of a tag, which begins at f.
 fn pass_section(s: &[u8], f: Field, tag: usize) -> Run
     requires { ⌜ Begins tag (now s) f ⌝ }
-    ensures { λ r. ⌜ Passed tag (now (s .entry)) r ⌝ }
+    ensures { λ r. ⌜ PassedSection tag (now (s .entry)) r ⌝ }
 {
     let start = f.at;
     let mut count = 0;
@@ -106,7 +106,7 @@ fn pass_section(s: &[u8], f: Field, tag: usize) -> Run
 fn table_section(s: &[u8], f: Field, tag: usize, table: &mut [usize]) -> Run
     requires { ⌜ Begins tag (now s) f ⌝ }
     requires { ⌜ length (offsetsOf tag (now s)) ≤ length (now table) ⌝ }
-    ensures passed { λ r. ⌜ Passed tag (now (s .entry)) r ⌝ }
+    ensures passed { λ r. ⌜ PassedSection tag (now (s .entry)) r ⌝ }
     ensures table { λ _. ⌜ now (table .exit) ≡ startsWith (offsetsOf tag (now (s .entry))) (now (table .entry)) ⌝ }
 {
     let start = f.at;
@@ -242,7 +242,7 @@ struct Sifted {
 
 // Passes the head, where the first field f is one.
 fn sift_head(s: &[u8], f: Field) -> Sifted
-    requires { ⌜ Leading (now s) f ⌝ }
+    requires { ⌜ AtStart (now s) f ⌝ }
     ensures { λ r. ⌜ Sifts headTag (now (s .entry)) r ⌝ }
 {
     let start = f.at;
@@ -333,7 +333,7 @@ fn list_section(s: &[u8], f: Field, tag: usize, n: usize, table: &mut [usize]) -
     requires { ⌜ Entering tag n (now s) f ⌝ }
     requires { ⌜ tag ≤ highestTag ⌝ }
     ensures sifts { λ r. ⌜ Sifts tag (now (s .entry)) r ⌝ }
-    ensures table { λ r. ⌜ Lists tag (now (s .entry)) (r .fine) (now (table .exit)) ⌝ }
+    ensures table { λ r. ⌜ TabledIfFine tag (now (s .entry)) (r .fine) (now (table .exit)) ⌝ }
 {
     let start = f.at;
     let mut listed = 0;
@@ -395,10 +395,10 @@ fn list_section(s: &[u8], f: Field, tag: usize, n: usize, table: &mut [usize]) -
 
 // The section behind one that was passed; what is behind a fault isn't looked at.
 fn sift_on(s: &[u8], before: Sifted, tag: usize, n: usize) -> Sifted
-    requires { ⌜ Ready tag n (now s) before ⌝ }
+    requires { ⌜ ReadyFor tag n (now s) before ⌝ }
     requires { ⌜ (textTag < tag) × (tag ≤ highestTag) ⌝ }
     ensures follows { λ r. ⌜ Follows tag (now (s .entry)) before r ⌝ }
-    ensures ready { λ r. ⌜ Ready (tag + 1) n (now (s .entry)) r ⌝ }
+    ensures ready { λ r. ⌜ ReadyFor (tag + 1) n (now (s .entry)) r ⌝ }
 {
     if before.fine {
         return sift_section(s, before.next, tag, n);
@@ -407,10 +407,10 @@ fn sift_on(s: &[u8], before: Sifted, tag: usize, n: usize) -> Sifted
 }
 
 fn list_on(s: &[u8], before: Sifted, tag: usize, n: usize, table: &mut [usize]) -> Sifted
-    requires { ⌜ Ready tag n (now s) before ⌝ }
+    requires { ⌜ ReadyFor tag n (now s) before ⌝ }
     requires { ⌜ tag ≤ highestTag ⌝ }
     ensures follows { λ r. ⌜ Follows tag (now (s .entry)) before r ⌝ }
-    ensures table { λ r. ⌜ Lists tag (now (s .entry)) (r .fine) (now (table .exit)) ⌝ }
+    ensures table { λ r. ⌜ TabledIfFine tag (now (s .entry)) (r .fine) (now (table .exit)) ⌝ }
 {
     if before.fine {
         return list_section(s, before.next, tag, n, table);
@@ -426,7 +426,7 @@ struct Rest {
 
 // Passes them, from the connectors on, where there are n texts.
 fn sift_fixed(s: &[u8], before: Sifted, n: usize) -> Rest
-    requires { ⌜ Ready connectorTag n (now s) before ⌝ }
+    requires { ⌜ ReadyFor connectorTag n (now s) before ⌝ }
     ensures { λ r. ⌜ Fixes (now (s .entry)) before r ⌝ }
 {
     let connectors = sift_on(s, before, CONNECTOR_TAG, n);
@@ -460,8 +460,8 @@ struct Surveyed {
 fn survey(s: &[u8], texts: &mut [usize], blocks: &mut [usize]) -> Surveyed
     requires { ⌜ length (now s) ≤ longestImage ⌝ }
     ensures surveys { λ r. ⌜ Surveys (now (s .entry)) r ⌝ }
-    ensures texts { λ r. ⌜ Lists textTag (now (s .entry)) (r .fine) (now (texts .exit)) ⌝ }
-    ensures blocks { λ r. ⌜ Lists blockTag (now (s .entry)) (r .fine) (now (blocks .exit)) ⌝ }
+    ensures texts { λ r. ⌜ TabledIfFine textTag (now (s .entry)) (r .fine) (now (texts .exit)) ⌝ }
+    ensures blocks { λ r. ⌜ TabledIfFine blockTag (now (s .entry)) (r .fine) (now (blocks .exit)) ⌝ }
 {
     let head = sift_head(s, first_field(s));
     let texts = list_on(s, head, TEXT_TAG, 0, texts);
@@ -498,12 +498,12 @@ fn survey(s: &[u8], texts: &mut [usize], blocks: &mut [usize]) -> Surveyed
 
 // The answer for an image with whole fields and good tags, refusal by refusal.
 fn decide(s: &[u8], texts: &mut [usize], blocks: &mut [usize]) -> Acceptance
-    requires { ⌜ Framing (now s) ⌝ }
+    requires { ⌜ WellFramed (now s) ⌝ }
     requires { ⌜ most textTag ≤ length (now texts) ⌝ }
     requires { ⌜ most blockTag ≤ length (now blocks) ⌝ }
     ensures answer { λ r. ⌜ r ≡ acceptance (now (s .entry)) ⌝ }
-    ensures texts { λ _. ⌜ Listed textTag (now (s .entry)) (now (texts .exit)) ⌝ }
-    ensures blocks { λ _. ⌜ Listed blockTag (now (s .entry)) (now (blocks .exit)) ⌝ }
+    ensures texts { λ _. ⌜ TabledIfAccepted textTag (now (s .entry)) (now (texts .exit)) ⌝ }
+    ensures blocks { λ _. ⌜ TabledIfAccepted blockTag (now (s .entry)) (now (blocks .exit)) ⌝ }
 {
     let verdict = refuse_fields(s);
     match verdict {
@@ -518,8 +518,8 @@ fn try_refusals(s: &[u8], texts: &mut [usize], blocks: &mut [usize]) -> Acceptan
     requires { ⌜ most textTag ≤ length (now texts) ⌝ }
     requires { ⌜ most blockTag ≤ length (now blocks) ⌝ }
     ensures answer { λ r. ⌜ r ≡ acceptance (now (s .entry)) ⌝ }
-    ensures texts { λ _. ⌜ Listed textTag (now (s .entry)) (now (texts .exit)) ⌝ }
-    ensures blocks { λ _. ⌜ Listed blockTag (now (s .entry)) (now (blocks .exit)) ⌝ }
+    ensures texts { λ _. ⌜ TabledIfAccepted textTag (now (s .entry)) (now (texts .exit)) ⌝ }
+    ensures blocks { λ _. ⌜ TabledIfAccepted blockTag (now (s .entry)) (now (blocks .exit)) ⌝ }
 {
     let framed = frame(s);
     match framed {
@@ -546,8 +546,8 @@ pub fn accept(
     blocks: &mut [usize; MOST_BLOCKS],
 ) -> Acceptance
     ensures answer { λ r. ⌜ r ≡ acceptance (now (image .entry)) ⌝ }
-    ensures texts { λ _. ⌜ Listed textTag (now (image .entry)) (now (texts .exit)) ⌝ }
-    ensures blocks { λ _. ⌜ Listed blockTag (now (image .entry)) (now (blocks .exit)) ⌝ }
+    ensures texts { λ _. ⌜ TabledIfAccepted textTag (now (image .entry)) (now (texts .exit)) ⌝ }
+    ensures blocks { λ _. ⌜ TabledIfAccepted blockTag (now (image .entry)) (now (blocks .exit)) ⌝ }
 {
     if image.len() < SHORTEST_IMAGE {
         return Acceptance::Refused { number: 1, at: 0 };

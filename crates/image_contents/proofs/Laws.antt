@@ -35,10 +35,10 @@ module _ (s : List ℕ) (at marks q u d : ℕ) (M : marks ≡ byte s (at + 1)) (
   unfolding badTextNumbers attrsAt
   texts-are n b e = e ∙ rw (M, Q, U, D)
 
-pub type-are : (s : List ℕ) (at dir kind class : ℕ) (b : Bool) → dir ≡ byte s (at + 11) → kind ≡ byte s (at + 12) → class ≡ le32 s (at + 13)
-    → b ≡ badType dir kind class → b ≡ badConnector (connectorAt s at)
+pub type-are : (s : List ℕ) (at dir type class : ℕ) (b : Bool) → dir ≡ byte s (at + 11) → type ≡ byte s (at + 12) → class ≡ le32 s (at + 13)
+    → b ≡ badType dir type class → b ≡ badConnector (connectorAt s at)
 unfolding badConnector connectorAt
-type-are s at dir kind class b D K C e = e ∙ rw (D, K, C)
+type-are s at dir type class b D K C e = e ∙ rw (D, K, C)
 
 pub none-read : (n x y : ℕ) (r v : Bool) → r ≡ badOrNone n x → x ≡ y → r ≡ v → v ≡ badOrNone n y
 none-read n x y r v e f g = sym g ∙ e ∙ rw f

@@ -33,6 +33,6 @@ badTextNumber n m p x = bit m p && leb n x
 abbrev pub missing : ℕ → ℕ → ℕ → ℕ → ℕ → Bool
 missing n m q u d = badTextNumber n m quantityBit q || badTextNumber n m unitBit u || badTextNumber n m displayUnitBit d
 
--- a connector's direction, type and enum class
+-- a connector's direction, type or enum class is none
 abbrev pub badType : ℕ → ℕ → ℕ → Bool
-badType d k c = ltb dirOut d || ltb enumKind k || (not (eqb k enumKind) && not (eqb c 0))
+badType d t c = ltb dirOut d || ltb enumKind t || (not (eqb t enumKind) && not (eqb c 0))

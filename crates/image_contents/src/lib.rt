@@ -132,10 +132,10 @@ pub fn bad_or_none(n: usize, number: usize) -> bool
 }
 
 // A connector's direction, type and enum class.
-pub fn bad_type(dir: usize, kind: usize, class: usize) -> bool
-    ensures { λ r. ⌜ r ≡ badType dir kind class ⌝ }
+pub fn bad_type(dir: usize, value_type: usize, class: usize) -> bool
+    ensures { λ r. ⌜ r ≡ badType dir «value_type» class ⌝ }
 {
-    (DIR_OUT < dir) | (ENUM_KIND < kind) | ((kind != ENUM_KIND) & (class != 0))
+    (DIR_OUT < dir) | (ENUM_KIND < value_type) | ((value_type != ENUM_KIND) & (class != 0))
 }
 
 // ---- 6
@@ -173,9 +173,9 @@ pub fn bad_connector(s: &[u8], at: usize) -> bool
     ensures { λ r. ⌜ r ≡ badConnector (connectorAt (now (s .entry)) at) ⌝ }
 {
     let dir = byte_at(s, at + CONNECTOR_DIR_AT);
-    let kind = byte_at(s, at + CONNECTOR_TYPE_AT);
+    let value_type = byte_at(s, at + CONNECTOR_TYPE_AT);
     let class = at32(s, at + CONNECTOR_CLASS_AT);
-    bad_type(dir, kind, class)
+    bad_type(dir, value_type, class)
 }
 
 // A field's contents break refusal 6.

@@ -31,10 +31,11 @@ placed s at prev n = fieldAt s at prev (ordOf prev n (byte s at))
 abbrev pub endOf : Field → ℕ
 endOf f = f .at + leadingBytes + f .len
 
--- the first field, and the one behind a field
+-- the first field
 unfoldable pub start : List ℕ → Field
 start s = placed s 0 0 0
 
+-- the field behind a field
 unfoldable pub after : List ℕ → Field → Field
 after s f = placed s (endOf f) (f .tag) (f .ord + 1)
 

@@ -20,8 +20,8 @@ use Rattle.oce_model.specs.declared.Field.{Field}
 use Rattle.oce_model.specs.Model.{modelOf, idsAt, inputCountAt, outputCountAt, noBlock, block, blockAt, connector, connectorAt, connection, connectionAt, externalInputAt, boundaryInput, boundaryInputAt, boundaryOutput, boundaryOutputAt, blockCount, connectorCount, connectionCount, boundaryInputCount, boundaryOutputCount}
 use Rattle.oce_model.specs.Refusals.{badLength, badBlockLength}
 use Rattle.oce_model.specs.declared.Connection.{Connection}
-use Rattle.oce_model.specs.declared.Connector.{Connector}
-use Rattle.oce_model.specs.declared.BoundaryOutput.{BoundaryOutput}
+use Rattle.oce_model.specs.declared.ConnectorFront.{ConnectorFront}
+use Rattle.oce_model.specs.declared.BoundaryOutputFront.{BoundaryOutputFront}
 use Rattle.oce_model.proofs.Accepted.{Accepted, accepted, fixed-length, connectors-length, connections-length, inputs-length, outputs-length}
 use Rattle.oce_model.proofs.Fields.{none-mem, nth, nth-mem, nth-tag}
 use Rattle.oce_model.proofs.Places.{field-end}
@@ -51,7 +51,7 @@ inside s acc t z i n o e k =
 
 -- a connector from its parts
 pub connector-parts : (s : List ℕ) (at : ℕ) {i b d k c t : ℕ} → i ≡ le32 s (at + 3) → b ≡ le32 s (at + 7) → d ≡ byte s (at + 11) → k ≡ byte s (at + 12) → c ≡ le32 s (at + 13) → t ≡ le16 s (at + 17)
-    → record { id = record { 0 = i }; block = record { 0 = b }; dir = d; kind = k; class = c; iri = t } ≡ connectorRead (connectorAt s at)
+    → record { id = record { 0 = i }; block = record { 0 = b }; dir = d; «value_type» = k; class = c; iri = t } ≡ connectorRead (connectorAt s at)
 unfolding connectorAt connectorRead
 connector-parts s at e₁ e₂ e₃ e₄ e₅ e₆ = rw (e₁, e₂, e₃, e₄, e₅, e₆)
 
@@ -144,7 +144,7 @@ module _ {s : List ℕ} {l : Layout} (h : Laid s l) where
           let n : i < connectorCount (modelOf s) = rw (connectors-length s) (rw (h .layout) at k) in
           rw (h .layout) (sym (connector-at s acc i n))
 
-      pub connector-read : {at : ℕ} {c : Connector} → at ≡ l .connectors .start + connectorSize * i → c ≡ connectorRead (connectorAt s at) → c ≡ connectorRead (connector (modelOf s) i)
+      pub connector-read : {at : ℕ} {c : ConnectorFront} → at ≡ l .connectors .start + connectorSize * i → c ≡ connectorRead (connectorAt s at) → c ≡ connectorRead (connector (modelOf s) i)
       connector-read e q = q ∙ ap connectorRead (ap (connectorAt s) e ∙ connector-is)
 
       pub connector-has : {at : ℕ} → at ≡ l .connectors .start + connectorSize * i → attrsAt s (at + connectorAttrs) ≡ connector (modelOf s) i .attrs

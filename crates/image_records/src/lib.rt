@@ -16,9 +16,9 @@ use oce_model::BOUNDARY_OUTPUT_ATTRS;
 use oce_model::BOUNDARY_OUTPUT_IRI_AT;
 use oce_model::BOUNDARY_OUTPUT_SIZE;
 use oce_model::BOUNDARY_OUTPUT_SOURCE_AT;
-use oce_model::Block;
+use oce_model::BlockFront;
 use oce_model::BlockId;
-use oce_model::BoundaryOutput;
+use oce_model::BoundaryOutputFront;
 use oce_model::CONNECTION_FROM_AT;
 use oce_model::CONNECTION_SIZE;
 use oce_model::CONNECTION_TO_AT;
@@ -31,7 +31,7 @@ use oce_model::CONNECTOR_IRI_AT;
 use oce_model::CONNECTOR_SIZE;
 use oce_model::CONNECTOR_TYPE_AT;
 use oce_model::Connection;
-use oce_model::Connector;
+use oce_model::ConnectorFront;
 use oce_model::ConnectorId;
 use oce_model::EXTERNAL_INPUT_ID_AT;
 use oce_model::EXTERNAL_INPUT_SIZE;
@@ -56,22 +56,22 @@ fn record_at(section: Section, size: usize, i: usize) -> usize
 
 // ---- connectors
 
-fn connector_at(image: &[u8], at: usize) -> Connector
+fn connector_at(image: &[u8], at: usize) -> ConnectorFront
     requires { ⌜ (at ≤ longestImage) × (at + connectorSize ≤ length (now image)) ⌝ }
     ensures { λ r. ⌜ (r ≡ connectorRead (connectorAt (now (image .entry)) at)) × (r .iri < shortRange) ⌝ }
 {
-    Connector {
+    ConnectorFront {
         id: ConnectorId(read32(image, at + CONNECTOR_ID_AT) as u32),
         block: BlockId(read32(image, at + CONNECTOR_BLOCK_AT) as u32),
         dir: read8(image, at + CONNECTOR_DIR_AT),
-        kind: read8(image, at + CONNECTOR_TYPE_AT),
+        value_type: read8(image, at + CONNECTOR_TYPE_AT),
         class: read32(image, at + CONNECTOR_CLASS_AT),
         iri: read16(image, at + CONNECTOR_IRI_AT),
     }
 }
 
-// Connector i.
-pub fn connector(image: &[u8], layout: Layout, i: ConnectorId) -> Connector
+// Connector i, what stands in front of its attributes.
+pub fn connector(image: &[u8], layout: Layout, i: ConnectorId) -> ConnectorFront
     requires { ⌜ Laid (now image) layout × (i .0 < layout .connectors .count) ⌝ }
     ensures { λ r. ⌜ (r ≡ connectorRead (connector (modelOf (now (image .entry))) (i .0))) × (r .iri < shortRange) ⌝ }
 {
@@ -138,14 +138,14 @@ pub fn boundary_input_attrs(image: &[u8], layout: Layout, i: usize) -> usize
     record_at(c, BOUNDARY_INPUT_SIZE, i) + BOUNDARY_INPUT_ATTRS
 }
 
-// Boundary output i.
-pub fn boundary_output(image: &[u8], layout: Layout, i: usize) -> BoundaryOutput
+// Boundary output i, what stands in front of its attributes.
+pub fn boundary_output(image: &[u8], layout: Layout, i: usize) -> BoundaryOutputFront
     requires { ⌜ Laid (now image) layout × (i < layout .outputs .count) ⌝ }
     ensures { λ r. ⌜ (r ≡ outputRead (boundaryOutput (modelOf (now (image .entry))) i)) × (r .iri < shortRange) ⌝ }
 {
     let c = layout.outputs;
     let at = record_at(c, BOUNDARY_OUTPUT_SIZE, i);
-    BoundaryOutput {
+    BoundaryOutputFront {
         iri: read16(image, at + BOUNDARY_OUTPUT_IRI_AT),
         source: ConnectorId(read32(image, at + BOUNDARY_OUTPUT_SOURCE_AT) as u32),
     }
@@ -171,13 +171,13 @@ pub fn block_offset(image: &[u8], layout: Layout, blocks: &[usize], i: BlockId) 
     blocks[k]
 }
 
-// The block whose field stands at an offset.
-pub fn block(image: &[u8], at: usize) -> Block
+// The block whose field stands at an offset, what stands in front of its ports.
+pub fn block(image: &[u8], at: usize) -> BlockFront
     requires { ⌜ at ≤ longestImage ⌝ }
     requires { ⌜ at + blockPorts ≤ length (now image) ⌝ }
     ensures { λ r. ⌜ (r ≡ blockRead (blockAt (now (image .entry)) at)) × (r .instance < shortRange) × (r .inputs ≡ inputCountAt (now (image .entry)) at) × (r .outputs ≡ outputCountAt (now (image .entry)) at) ⌝ }
 {
-    Block {
+    BlockFront {
         id: BlockId(read32(image, at + BLOCK_ID_AT) as u32),
         instance: read16(image, at + BLOCK_INSTANCE_AT),
         inputs: read16(image, at + BLOCK_INPUTS_AT),

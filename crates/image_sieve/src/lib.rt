@@ -77,10 +77,12 @@ fn connector_contents(n: usize, s: &[u8], at: usize) -> bool
     ensures { λ r. ⌜ r ≡ connectorFaulty n (connectorAt (now (s .entry)) at) ⌝ }
 {
     let dir = wide(s[at + CONNECTOR_DIR_AT]);
-    let kind = wide(s[at + CONNECTOR_TYPE_AT]);
+    let value_type = wide(s[at + CONNECTOR_TYPE_AT]);
     let class = read32(s, at + CONNECTOR_CLASS_AT);
     let iri = read16(s, at + CONNECTOR_IRI_AT);
-    bad_type(dir, kind, class) | bad_or_none(n, iri) | attrs_faulty(n, s, at + CONNECTOR_ATTRS)
+    bad_type(dir, value_type, class)
+        | bad_or_none(n, iri)
+        | attrs_faulty(n, s, at + CONNECTOR_ATTRS)
 }
 
 // The same of a boundary record whose length is right, and whose attributes stand at an offset of it.

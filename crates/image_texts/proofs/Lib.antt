@@ -1,4 +1,4 @@
--- Laws of the order of byte strings, eight bytes at a time, and where texts stand.
-pub mod Order
+-- Comparing byte strings, byte by byte and eight bytes at a time, and where texts stand.
+pub mod Bytewise
 pub mod Eight
 pub mod Places

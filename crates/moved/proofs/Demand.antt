@@ -16,7 +16,7 @@ use Rattle.oce_model.specs.Model.{Model, boundaryInput, boundaryOutput, boundar
 use Rattle.oce_model.specs.Refusals.{attrsOffset, badAttrs, badConnector, badContents, badHead, onAttrs, refusal}
 use Rattle.oce_model.specs.declared.Field.{Field}
 use Rattle.oce_diag.specs.Diagnostics.{hasError}
-use Rattle.crossed_bounds.specs.Ranges.{integerRange, rangeOf}
+use Rattle.crossed_bounds.specs.Ranges.{rangeOf}
 use Rattle.crossed_bounds.specs.Values.{Datum, inside, ofType}
 use Rattle.unify.specs.Slots.{Slots, slot, slotsOf}
 use Rattle.unify.specs.Unify.{filledSlots}
@@ -48,9 +48,8 @@ pub record Filled (m f : Model) : Type 0 where
   pub outputs : (i : ℕ) → i < boundaryOutputCount m → boundaryOutput f i .attrs ≡ slot (filled m) (connectorCount m + i)
 
 -- ranges and texts are read alike in both
-range-same : (m f : Model) → Same m f → (a : Attrs) → rangeOf f a ≡ rangeOf m a
-unfolding rangeOf integerRange
-range-same m f s a = rw (s .integerMin, s .integerMax)
+range-same : (m f : Model) → Same m f → (a : Attrs) → rangeOf (f .defaults) a ≡ rangeOf (m .defaults) a
+range-same m f s a = ap (λ d. rangeOf d a) (s .defaults)
 
 text-same : (m f : Model) → Same m f → (u : ℕ) → text f u ≡ text m u
 unfolding text
@@ -78,11 +77,11 @@ module _ (m f : Model) (is : Filled m f) where
   kept-ins i = rw (is .same .boundaryInputs) (Kept·refl _)
 
   -- the filled range of a connector, and of a boundary output
-  range-at : (i : ℕ) → i < connectorCount m → rangeOf f (connector f i .attrs) ≡ rangeOf m (slot (filled m) i)
-  range-at i l = range-same m f (is .same) (connector f i .attrs) ∙ ap (rangeOf m) (is .connectors i l)
+  range-at : (i : ℕ) → i < connectorCount m → rangeOf (f .defaults) (connector f i .attrs) ≡ rangeOf (m .defaults) (slot (filled m) i)
+  range-at i l = range-same m f (is .same) (connector f i .attrs) ∙ ap (rangeOf (m .defaults)) (is .connectors i l)
 
-  range-out : (i : ℕ) → i < boundaryOutputCount m → rangeOf f (boundaryOutput f i .attrs) ≡ rangeOf m (slot (filled m) (connectorCount m + i))
-  range-out i l = range-same m f (is .same) (boundaryOutput f i .attrs) ∙ ap (rangeOf m) (is .outputs i l)
+  range-out : (i : ℕ) → i < boundaryOutputCount m → rangeOf (f .defaults) (boundaryOutput f i .attrs) ≡ rangeOf (m .defaults) (slot (filled m) (connectorCount m + i))
+  range-out i l = range-same m f (is .same) (boundaryOutput f i .attrs) ∙ ap (rangeOf (m .defaults)) (is .outputs i l)
 
 -- ---- the model of an accepted image
 
@@ -103,7 +102,7 @@ types s acc i l =
     rw (connector-is s i l) (type-ok s (nth connectorTag s i) (nth-tag connectorTag s i k) (none-mem (badContents s) (fields s) (acc .contents) (nth connectorTag s i) (nth-mem connectorTag s i k)))
 
 -- the Integer default min is a number of 64 bits
-low-end : (s : List ℕ) → mag (modelOf s .integerMin) < 2 ^ 63
+low-end : (s : List ℕ) → mag (modelOf s .defaults .min) < 2 ^ 63
 unfolding modelOf
 low-end s = signed-mag _
 
@@ -185,11 +184,11 @@ demand3 s c = record {
     chose : (x : ℕ → Datum) → Choice m f x → (i : ℕ) → chosen m i ≡ true → Chosen m st qu (c .kinds) room x i
     chose x choice i h = let p = choice i h in record { typed = p .0; ranged = rw (range-at m f is i (chosen-lt m i h)) at (p .1) }
 
-    given : (x : ℕ → Datum) (i : ℕ) → chosen m i ≡ true → Chosen m st qu (c .kinds) room x i → (ofType (connector m i) (x i) ≡ true) × (inside (rangeOf f (connector f i .attrs)) (x i) ≡ true)
+    given : (x : ℕ → Datum) (i : ℕ) → chosen m i ≡ true → Chosen m st qu (c .kinds) room x i → (ofType (connector m i) (x i) ≡ true) × (inside (rangeOf (f .defaults) (connector f i .attrs)) (x i) ≡ true)
     given x i h p = (p .typed, rw (range-at m f is i (chosen-lt m i h)) (p .ranged))
 
     x₀ : ℕ → Datum
-    x₀ = λ i. pick (connector m i .valueType) (connector m i .enumClass) (rangeOf m (slot (filled m) i))
+    x₀ = λ i. pick (connector m i .valueType) (connector m i .enumClass) (rangeOf (m .defaults) (slot (filled m) i))
 
 -- The demand's last part as it is worded, where every Real end set in the image is finite: a choice of values exists. It needs no such premise
 pub exists-finite : (s : List ℕ) → Clean s → FiniteEnds (modelOf s) → (x : ℕ → Datum) × Choice (modelOf s) (modelOf (filledOf s)) x

@@ -131,18 +131,18 @@ module _ (m : Model) (stars : Stars m) (quiet : Quiet m) (kinds : OfTypes m) (ro
   -- what a choice says of connector i
   pub record Chosen (x : ℕ → Datum) (i : ℕ) : Type 0 where
     pub typed : ofType (connector m i) (x i) ≡ true
-    pub ranged : inside (rangeOf m (slot (filled m) i)) (x i) ≡ true
+    pub ranged : inside (rangeOf (m .defaults) (slot (filled m) i)) (x i) ≡ true
 
   type-along : (c d : Connector) (v : Datum) → c .valueType ≡ d .valueType → c .enumClass ≡ d .enumClass → ofType c v ≡ true → ofType d v ≡ true
   unfolding ofType
   type-along c d v e f h = rw (e, f) at h
 
   pub input-gets : (x : ℕ → Datum) → ((i : ℕ) → chosen m i ≡ true → Chosen x i) → (i : ℕ) → i < connectorCount m → isIn (connector m i) ≡ true
-      → (v : Datum) × (arrivals m x i ≡ v ∷ []) × (ofType (connector m i) v ≡ true) × (inside (rangeOf m (slot (filled m) i)) v ≡ true)
+      → (v : Datum) × (arrivals m x i ≡ v ∷ []) × (ofType (connector m i) v ≡ true) × (inside (rangeOf (m .defaults) (slot (filled m) i)) v ≡ true)
   input-gets x choice i l n = arm (connected m i) refl
     where
       Gets : ℕ → Type 0
-      Gets i = (v : Datum) × (arrivals m x i ≡ v ∷ []) × (ofType (connector m i) v ≡ true) × (inside (rangeOf m (slot (filled m) i)) v ≡ true)
+      Gets i = (v : Datum) × (arrivals m x i ≡ v ∷ []) × (ofType (connector m i) v ≡ true) × (inside (rangeOf (m .defaults) (slot (filled m) i)) v ≡ true)
 
       fed : (k : ℕ) → k < connectionCount m → Gets (connection m k .to)
       fed k g =
@@ -161,7 +161,7 @@ module _ (m : Model) (stars : Stars m) (quiet : Quiet m) (kinds : OfTypes m) (ro
           (x i, free-arrives m x i e, c .typed, c .ranged)
 
   pub output-gets : (x : ℕ → Datum) → ((i : ℕ) → chosen m i ≡ true → Chosen x i) → (i : ℕ) → i < boundaryOutputCount m
-      → (v : Datum) × (delivered m x (boundaryOutput m i) ≡ v ∷ []) × (ofKind (boundaryOutput m i .attrs .kind) v ≡ true) × (inside (rangeOf m (slot (filled m) (connectorCount m + i))) v ≡ true)
+      → (v : Datum) × (delivered m x (boundaryOutput m i) ≡ v ∷ []) × (ofKind (boundaryOutput m i .attrs .kind) v ≡ true) × (inside (rangeOf (m .defaults) (slot (filled m) (connectorCount m + i))) v ≡ true)
   unfolding delivered ofType
   output-gets x choice i l =
       let r = boundaryOutput m i .source in
@@ -183,20 +183,20 @@ module _ (m : Model) (stars : Stars m) (quiet : Quiet m) (kinds : OfTypes m) (ro
       arm false h g = true≢false (sym to-in ∙ h)
       arm true h g = true≢false (sym (below-some (connectionCount m) (λ k. eqb (connection m k .to) i) k l (eq-eqb _ i e)) ∙ not-true _ g)
 
-  uncrossed-at : (i : ℕ) → chosen m i ≡ true → crossed (rangeOf m (slot (filled m) i)) ≡ false
+  uncrossed-at : (i : ℕ) → chosen m i ≡ true → crossed (rangeOf (m .defaults) (slot (filled m) i)) ≡ false
   uncrossed-at i c = arm (isRoot m i) refl
     where
       l : i < connectorCount m
       l = chosen-lt m i c
 
-      arm : (b : Bool) → isRoot m i ≡ b → crossed (rangeOf m (slot (filled m) i)) ≡ false
+      arm : (b : Bool) → isRoot m i ≡ b → crossed (rangeOf (m .defaults) (slot (filled m) i)) ≡ false
       arm true e = quiet .rootRange i l e
       arm false e =
           let s : slot (filled m) i ≡ slot (slotsOf m) i = between m 0 (connectorCount m) i (omega arith) (λ r a b f g. true≢false (sym f ∙ ap (isRoot m) (sym (alone m stars r i l (no-wire i c) g)) ∙ e)) ∙ from-start m i in
-          ap (λ a. crossed (rangeOf m a)) (s ∙ slot-connector m i l) ∙ quiet .range i l
+          ap (λ a. crossed (rangeOf (m .defaults) a)) (s ∙ slot-connector m i l) ∙ quiet .range i l
 
-  pub a-choice : ((i : ℕ) → i < connectorCount m → connector m i .valueType ≤ enumKind) → mag (m .integerMin) < 2 ^ 63
-      → (i : ℕ) → chosen m i ≡ true → Chosen (λ i. pick (connector m i .valueType) (connector m i .enumClass) (rangeOf m (slot (filled m) i))) i
+  pub a-choice : ((i : ℕ) → i < connectorCount m → connector m i .valueType ≤ enumKind) → mag (m .defaults .min) < 2 ^ 63
+      → (i : ℕ) → chosen m i ≡ true → Chosen (λ i. pick (connector m i .valueType) (connector m i .enumClass) (rangeOf (m .defaults) (slot (filled m) i))) i
   a-choice types low i c =
       let p = pick-fits m (connector m i) (slot (filled m) i) (filled-kind i (chosen-lt m i c)) (types i (chosen-lt m i c)) low (uncrossed-at i c) in
       record { typed = p .0; ranged = p .1 }

@@ -1,12 +1,12 @@
 -- The image with its slots' attributes written anew: read again it has the same fields, and its model is the model with those attributes.
 use Prim.Native.Nat.{ℕ, _+_, _*_, _≤_, _<_}
 use native.Mathlib.Omega.{arith}
-use mathlib.Core.Path.{_≡_, refl, sym, ap, _∙_}
+use mathlib.Core.Path.{_≡_, refl, sym, ap, ap₂, _∙_}
 use mathlib.Core.Logic.{_≢_}
 use mathlib.Core.List.{List, [], _∷_, map, List·Memᴰ, List·Memᴰ·head, List·Memᴰ·tail}
 use lib.ListN.{length, getD, take, drop, length-take, length-drop}
 use lib.Seq.{ext-getD, getD-take, getD-drop}
-use Rattle.numbers.specs.Bytes.{byte, le, le32, le64, signed64}
+use Rattle.numbers.specs.Bytes.{byte, leAt, le32, le64, signed64}
 use Rattle.oce_model.specs.Format.{attrsLength, blockTag, boundaryInputAttrs, boundaryInputTag, boundaryOutputAttrs, boundaryOutputTag, connectionTag, connectorAttrs, connectorTag, externalInputTag, headTag, textTag}
 use Rattle.oce_model.specs.Attributes.{attrsAt, attrsBytes}
 use Rattle.oce_model.specs.Image.{fieldAt, fields, ofTag, stop}
@@ -70,16 +70,16 @@ module _ (s t : List ℕ) (σ : Slots) (acc : Accepted s) (w : Rewritten s t σ)
   ends-same = same-stop s t (w .same) (acc .ends) heads
 
   -- numbers in fields without slots
-  pub num-same : (f : Field) → List·Memᴰ f (fields s) → f .tag ≢ connectorTag → f .tag ≢ boundaryOutputTag → (v x : ℕ) → f .at ≤ x → x + v ≤ endAt f → le v t x ≡ le v s x
+  pub num-same : (f : Field) → List·Memᴰ f (fields s) → f .tag ≢ connectorTag → f .tag ≢ boundaryOutputTag → (v x : ℕ) → f .at ≤ x → x + v ≤ endAt f → leAt v t x ≡ leAt v s x
   num-same f m not-con not-out v x a b = le-same v t s x x (λ i l. w .still f (x + i) m (omega arith) (omega arith) (λ e. absurd (not-con e)) (λ e. absurd (not-out e)))
 
   -- and those before the attributes of a connector, and of a boundary output
-  pub num-connector : (f : Field) → List·Memᴰ f (fields s) → f .tag ≡ connectorTag → (v x : ℕ) → f .at ≤ x → x + v ≤ f .at + connectorAttrs → le v t x ≡ le v s x
+  pub num-connector : (f : Field) → List·Memᴰ f (fields s) → f .tag ≡ connectorTag → (v x : ℕ) → f .at ≤ x → x + v ≤ f .at + connectorAttrs → leAt v t x ≡ leAt v s x
   num-connector f m n v x a b =
       let z = connector-len s acc f m n in
       le-same v t s x x (λ i l. w .still f (x + i) m (omega arith) (omega arith) (λ e. omega arith) (λ e. absurd (omega (arith, sym n ∙ e))))
 
-  pub num-out : (f : Field) → List·Memᴰ f (fields s) → f .tag ≡ boundaryOutputTag → (v x : ℕ) → f .at ≤ x → x + v ≤ f .at + boundaryOutputAttrs → le v t x ≡ le v s x
+  pub num-out : (f : Field) → List·Memᴰ f (fields s) → f .tag ≡ boundaryOutputTag → (v x : ℕ) → f .at ≤ x → x + v ≤ f .at + boundaryOutputAttrs → leAt v t x ≡ leAt v s x
   num-out f m n v x a b =
       let z = output-len s acc f m n in
       le-same v t s x x (λ i l. w .still f (x + i) m (omega arith) (omega arith) (λ e. absurd (omega (arith, sym n ∙ e))) (λ e. omega arith))
@@ -167,7 +167,7 @@ module _ (s t : List ℕ) (σ : Slots) (acc : Accepted s) (w : Rewritten s t σ)
   count-same tag = ap (λ l. length (ofTag tag l)) fields-same
 
   pub connector-fields : (f : Field) → List·Memᴰ f (fields s) → f .tag ≡ connectorTag → SameConnector (connectorAt s (f .at)) (connectorAt t (f .at))
-  unfolding connectorAt le
+  unfolding connectorAt leAt
   connector-fields f m e = record {
     id = num-connector f m e 4 (f .at + 3) (omega arith) (omega arith);
     block = num-connector f m e 4 (f .at + 7) (omega arith) (omega arith);
@@ -193,8 +193,7 @@ module _ (s t : List ℕ) (σ : Slots) (acc : Accepted s) (w : Rewritten s t σ)
   pub same-model : Same (modelOf s) (modelOf t)
   unfolding modelOf
   same-model = record {
-    integerMin = ap signed64 (head-same 7 (omega arith));
-    integerMax = ap signed64 (head-same 15 (omega arith));
+    defaults = ap₂ (λ l h. record { min = signed64 l; max = signed64 h }) (head-same 7 (omega arith)) (head-same 15 (omega arith));
     texts = records textTag (textOf t) (textOf s) text-same;
     blocks = records blockTag (λ f. blockAt t (f .at)) (λ f. blockAt s (f .at)) block-same;
     connectorCount = connectors-length t ∙ count-same connectorTag ∙ sym (connectors-length s);

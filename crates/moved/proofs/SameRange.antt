@@ -66,17 +66,17 @@ module _ (m : Model) (a b : Attrs) (o : OneKey m a b) where
   unfolding key bitOf kindOf
   integer-max e = singles (declaredAt a maxBit) (declaredAt b maxBit) (vals 5 (omega arith) e)
 
-  same-bounds : rangeOf m a ≡ rangeOf m b
+  same-bounds : rangeOf (m .defaults) a ≡ rangeOf (m .defaults) b
   unfolding rangeOf
   same-bounds = arm (ℕ-discrete (b .kind) 0) (ℕ-discrete (b .kind) 1)
     where
-      arm : Dec (b .kind ≡ realKind) → Dec (b .kind ≡ integerKind) → rangeOf m a ≡ rangeOf m b
+      arm : Dec (b .kind ≡ realKind) → Dec (b .kind ≡ integerKind) → rangeOf (m .defaults) a ≡ rangeOf (m .defaults) b
       arm (yes e) f = rw (real-min (o .kind ∙ e), real-max (o .kind ∙ e), o .kind)
       arm (no e) (yes f) = rw (integer-min (o .kind ∙ f), integer-max (o .kind ∙ f), o .kind)
       arm (no e) (no f) = rw (o .kind, ne-eqb _ 0 e, ne-eqb _ 1 f)
 
   -- so the same values lie inside: all that is asked of the two ranges elsewhere
-  pub same-inside : (v : Datum) → inside (rangeOf m a) v ≡ inside (rangeOf m b) v
+  pub same-inside : (v : Datum) → inside (rangeOf (m .defaults) a) v ≡ inside (rangeOf (m .defaults) b) v
   same-inside v = ap (λ r. inside r v) same-bounds
 
   -- where other kinds have neither unit nor quantity

@@ -21,7 +21,7 @@ use Rattle.numbers.specs.Bytes.{signed64, real64}
 use Rattle.oce_model.specs.Format.{enumKind, integerKind, maxBit, minBit, realKind}
 use Rattle.oce_model.specs.Attributes.{Attrs, declaredAt}
 use Rattle.oce_model.specs.Model.{Connector, Model}
-use Rattle.crossed_bounds.specs.Ranges.{finiteEnd, endOf, orDefault, realRange, integerRange, rangeOf, crossedEnds, crossedBounds, crossed}
+use Rattle.crossed_bounds.specs.Ranges.{finiteEnd, realEnd, orDefault, realRange, integerRange, rangeOf, crossedEnds, crossedBounds, crossed}
 use Rattle.crossed_bounds.specs.Values.{Datum, real, integer, boolean, string, enum, ofKind, classIs, ofType, notBelow, notAbove, insideBounds, inside}
 use Rattle.crossed_bounds.specs.declared.Bounds.the-variants.{Real, Integer}
 use Rattle.crossed_bounds.specs.declared.End.{End}
@@ -75,11 +75,11 @@ record Fit (k : ℕ) (r : Range) (v : Datum) : Type 0 where
   range : inside r v ≡ true
 
 real-fit : (x y : Option ℕ) → crossed (realRange x y) ≡ false → Fit 0 (realRange x y) (real (pickReal (realRange x y)))
-unfolding realRange inside insideBounds notBelow notAbove finiteEnd endOf crossed crossedBounds crossedEnds
+unfolding realRange inside insideBounds notBelow notAbove finiteEnd realEnd crossed crossedBounds crossedEnds
 real-fit x y h = arm x y (finiteEnd x && finiteEnd y) refl h
   where
-    arm : (x y : Option ℕ) (t : Bool) → (finiteEnd x && finiteEnd y) ≡ t → crossed (cond t (Within (Real (endOf x) (endOf y))) Absent) ≡ false
-        → Fit 0 (cond t (Within (Real (endOf x) (endOf y))) Absent) (real (pickReal (cond t (Within (Real (endOf x) (endOf y))) Absent)))
+    arm : (x y : Option ℕ) (t : Bool) → (finiteEnd x && finiteEnd y) ≡ t → crossed (cond t (Within (Real (realEnd x) (realEnd y))) Absent) ≡ false
+        → Fit 0 (cond t (Within (Real (realEnd x) (realEnd y))) Absent) (real (pickReal (cond t (Within (Real (realEnd x) (realEnd y))) Absent)))
     arm x y false e h = record { kind = zero-real; range = refl }
     arm none none true e h = record { kind = zero-real; range = refl }
     arm none (some q) true e h = record { kind = bits-real q e; range = real-le-refl (real64 q) e }
@@ -108,24 +108,24 @@ unfolding ofKind inside insideBounds crossed crossedBounds
 integer-fit lo hi l h = record { kind = lt-ltb _ _ l; range = and-both _ _ (int-le-refl lo) (int-not-lt-le lo hi h) }
 
 module _ (m : Model) (a : Attrs) where
-  range-real : a .kind ≡ realKind → rangeOf m a ≡ realRange (declaredAt a minBit) (declaredAt a maxBit)
+  range-real : a .kind ≡ realKind → rangeOf (m .defaults) a ≡ realRange (declaredAt a minBit) (declaredAt a maxBit)
   unfolding rangeOf
   range-real e = rw (eq-eqb (a .kind) 0 e)
 
-  range-integer : a .kind ≡ integerKind → rangeOf m a ≡ Within (Integer (orDefault (declaredAt a minBit) (m .integerMin)) (orDefault (declaredAt a maxBit) (m .integerMax)))
+  range-integer : a .kind ≡ integerKind → rangeOf (m .defaults) a ≡ Within (Integer (orDefault (declaredAt a minBit) (m .defaults .min)) (orDefault (declaredAt a maxBit) (m .defaults .max)))
   unfolding rangeOf integerRange
   range-integer e = rw (ne-eqb (a .kind) 0 (λ z. absurd (omega arith)), eq-eqb (a .kind) 1 e)
 
-  range-none : 2 ≤ a .kind → rangeOf m a ≡ Absent
+  range-none : 2 ≤ a .kind → rangeOf (m .defaults) a ≡ Absent
   unfolding rangeOf
   range-none l = rw (ne-eqb (a .kind) 0 (λ z. absurd (omega arith)), ne-eqb (a .kind) 1 (λ z. absurd (omega arith)))
 
-  kind-fit : (k c : ℕ) → a .kind ≡ k → k ≤ 4 → mag (m .integerMin) < 2 ^ 63 → crossed (rangeOf m a) ≡ false → Fit k (rangeOf m a) (pick k c (rangeOf m a))
+  kind-fit : (k c : ℕ) → a .kind ≡ k → k ≤ 4 → mag (m .defaults .min) < 2 ^ 63 → crossed (rangeOf (m .defaults) a) ≡ false → Fit k (rangeOf (m .defaults) a) (pick k c (rangeOf (m .defaults) a))
   unfolding ofKind inside all
   kind-fit zero c e l i h = rw (range-real e) (real-fit (declaredAt a minBit) (declaredAt a maxBit) (rw (range-real e) at h))
   kind-fit (suc zero) c e l i h =
       rw (range-integer e)
-      (integer-fit (orDefault (declaredAt a minBit) (m .integerMin)) (orDefault (declaredAt a maxBit) (m .integerMax)) (default-mag (declaredAt a minBit) (m .integerMin) i) (rw (range-integer e) at h))
+      (integer-fit (orDefault (declaredAt a minBit) (m .defaults .min)) (orDefault (declaredAt a maxBit) (m .defaults .max)) (default-mag (declaredAt a minBit) (m .defaults .min) i) (rw (range-integer e) at h))
   kind-fit (suc (suc zero)) c e l i h = rw (range-none (omega arith)) (record { kind = refl; range = refl })
   kind-fit (suc (suc (suc zero))) c e l i h = rw (range-none (omega arith)) (record { kind = refl; range = refl })
   kind-fit (suc (suc (suc (suc zero)))) c e l i h = rw (range-none (omega arith)) (record { kind = refl; range = refl })
@@ -138,12 +138,12 @@ class-fit (suc (suc zero)) c r = refl
 class-fit (suc (suc (suc zero))) c r = refl
 class-fit (suc (suc (suc (suc k)))) c r = eq-eqb c c refl
 
-pub pick-fits : (m : Model) (c : Connector) (a : Attrs) → a .kind ≡ c .valueType → c .valueType ≤ enumKind → mag (m .integerMin) < 2 ^ 63 → crossed (rangeOf m a) ≡ false
-    → (ofType c (pick (c .valueType) (c .enumClass) (rangeOf m a)) ≡ true) × (inside (rangeOf m a) (pick (c .valueType) (c .enumClass) (rangeOf m a)) ≡ true)
+pub pick-fits : (m : Model) (c : Connector) (a : Attrs) → a .kind ≡ c .valueType → c .valueType ≤ enumKind → mag (m .defaults .min) < 2 ^ 63 → crossed (rangeOf (m .defaults) a) ≡ false
+    → (ofType c (pick (c .valueType) (c .enumClass) (rangeOf (m .defaults) a)) ≡ true) × (inside (rangeOf (m .defaults) a) (pick (c .valueType) (c .enumClass) (rangeOf (m .defaults) a)) ≡ true)
 unfolding ofType
 pick-fits m c a e l i h =
     let f = kind-fit m a (c .valueType) (c .enumClass) e l i h in
-    (and-both _ _ (f .kind) (class-fit (c .valueType) (c .enumClass) (rangeOf m a)), f .range)
+    (and-both _ _ (f .kind) (class-fit (c .valueType) (c .enumClass) (rangeOf (m .defaults) a)), f .range)
 
 -- no value lies inside an Integer range whose ends are numbers from 0 on, the min above the max
 pub crossed-empty : (a b : ℕ) → b < a → (v : Datum) → inside (Within (Integer (pos a) (pos b))) v ≡ true → ⊥

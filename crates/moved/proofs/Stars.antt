@@ -13,7 +13,7 @@ use Rattle.oce_diag.specs.declared.DiagCode.the-variants.{CrossedBounds, Direct
 use Rattle.oce_diag.specs.declared.Subject.the-variants.{Nothing, Text}
 use Rattle.structural.specs.Degrees.{degree, external}
 use Rattle.structural.specs.Structural.{sameType, matches, assignmentFaults, blockFaults, connectionFaults, connectorFaults, inRange, outputFaults, rule1, rule2, rule3, rule4}
-use Rattle.crossed_bounds.specs.CrossedBounds.{crossedFaults, rule5}
+use Rattle.crossed_bounds.specs.CrossedBounds.{crossedFaults, connectorCrossed, rule5}
 use Rattle.crossed_bounds.specs.Ranges.{crossed, rangeOf}
 use Rattle.unify.specs.Clusters.{driven, isRoot, sound}
 use Rattle.unify.specs.Slots.{slot}
@@ -37,10 +37,10 @@ rule4-clean m h i l = arm (inRange m k) refl (clean-each (connectionCount m) (λ
     k = connection m i
 
     arm : (b : Bool) → inRange m k ≡ b
-        → hasError (cond b (only (isIn (connector m (k .from))) (error DirectionMismatch 4 2 (subjectOf (connector m (k .from))) i)
+        → hasError (cond (not b) (error MalformedDocument 4 1 Nothing i ∷ [])
+        (only (isIn (connector m (k .from))) (error DirectionMismatch 4 2 (subjectOf (connector m (k .from))) i)
         ++ only (not (isIn (connector m (k .to)))) (error DirectionMismatch 4 3 (subjectOf (connector m (k .to))) i)
-        ++ only (not (sameType (connector m (k .from)) (connector m (k .to)))) (error TypeMismatch 4 4 (subjectOf (connector m (k .to))) i))
-        (error MalformedDocument 4 1 Nothing i ∷ [])) ≡ false
+        ++ only (not (sameType (connector m (k .from)) (connector m (k .to)))) (error TypeMismatch 4 4 (subjectOf (connector m (k .to))) i))) ≡ false
         → Sound m k
     arm true e g =
         let p = clean-append _ _ g in
@@ -62,10 +62,10 @@ pub record Stars (m : Model) : Type 0 where
 
 -- what rules 5 and 6 then say of ranges and clusters
 pub record Quiet (m : Model) : Type 0 where
-  pub range : (i : ℕ) → i < connectorCount m → crossed (rangeOf m (connector m i .attrs)) ≡ false
+  pub range : (i : ℕ) → i < connectorCount m → crossed (rangeOf (m .defaults) (connector m i .attrs)) ≡ false
   pub agreed : (r : ℕ) → r < connectorCount m → isRoot m r ≡ true → (d : ℕ) → d < 6
       → conflict m (d + 1) (declared (d + 1) (fills m (r ∷ driven m r) d (filledTo m r)) (r ∷ driven m r)) ≡ false
-  pub rootRange : (r : ℕ) → r < connectorCount m → isRoot m r ≡ true → crossed (rangeOf m (slot (filledTo m (connectorCount m)) r)) ≡ false
+  pub rootRange : (r : ℕ) → r < connectorCount m → isRoot m r ≡ true → crossed (rangeOf (m .defaults) (slot (filledTo m (connectorCount m)) r)) ≡ false
 
 rule1-id : (m : Model) → hasError (rule1 m) ≡ false → (i : ℕ) → i < connectorCount m → connector m i .id ≡ i
 unfolding rule1 connectorFaults
@@ -82,10 +82,9 @@ rule2-sound m h i l = arm (isConnector m (o .source)) refl (clean-each (boundary
     o = boundaryOutput m i
 
     arm : (b : Bool) → isConnector m (o .source) ≡ b
-        → hasError (cond b
+        → hasError (cond (not b) (error MalformedDocument 2 1 (Text (o .iri)) i ∷ [])
         (only (isIn (connector m (o .source))) (error DirectionMismatch 2 2 (Text (o .iri)) i)
-        ++ only (not (matches o (connector m (o .source)))) (error MalformedDocument 2 3 (Text (o .iri)) i))
-        (error MalformedDocument 2 1 (Text (o .iri)) i ∷ [])) ≡ false
+        ++ only (not (matches o (connector m (o .source)))) (error MalformedDocument 2 3 (Text (o .iri)) i))) ≡ false
         → (b && not (isIn (connector m (o .source))) && matches o (connector m (o .source))) ≡ true
     arm true e g =
         let p = clean-append _ _ g in
@@ -103,11 +102,11 @@ rule3-single m h i l e n =
     let q : degree m (connector m i .id) ≤ 1 = ltb-false 1 x (clean-only (ltb 1 x) SingleAssignment 3 2 (subjectOf c) x (p .1)) in
     rw e at q
 
-rule5-range : (m : Model) → hasError (rule5 m) ≡ false → (i : ℕ) → i < connectorCount m → crossed (rangeOf m (connector m i .attrs)) ≡ false
-unfolding rule5 crossedFaults
+rule5-range : (m : Model) → hasError (rule5 m) ≡ false → (i : ℕ) → i < connectorCount m → crossed (rangeOf (m .defaults) (connector m i .attrs)) ≡ false
+unfolding rule5 connectorCrossed crossedFaults
 rule5-range m h i l =
     let p = clean-append _ _ (clean-append _ _ (clean-append _ _ h .0) .0) in
-    clean-only (crossed (rangeOf m (connector m i .attrs))) CrossedBounds 5 1 _ i (clean-each (connectorCount m) (λ i. crossedFaults m 1 (subjectOf (connector m i)) i (connector m i .attrs)) (p .0) i l)
+    clean-only (crossed (rangeOf (m .defaults) (connector m i .attrs))) CrossedBounds 5 1 _ i (clean-each (connectorCount m) (connectorCrossed m) (p .0) i l)
 
 rule6-agreed : (m : Model) → hasError (rule6 m) ≡ false → (r : ℕ) → r < connectorCount m → isRoot m r ≡ true → (d : ℕ) → d < 6
     → conflict m (d + 1) (declared (d + 1) (fills m (r ∷ driven m r) d (filledTo m r)) (r ∷ driven m r)) ≡ false
@@ -118,11 +117,11 @@ rule6-agreed m h r l e d k =
     let p = clean-append _ _ g in
     clean-only _ (conflictCode (d + 1)) 6 (d + 1) _ r (clean-each 6 (detailFaults m r js (filledTo m r)) (p .0) d k)
 
-propagated-range : (m : Model) → hasError (propagated m) ≡ false → (r : ℕ) → r < connectorCount m → isRoot m r ≡ true → crossed (rangeOf m (slot (filledTo m (connectorCount m)) r)) ≡ false
+propagated-range : (m : Model) → hasError (propagated m) ≡ false → (r : ℕ) → r < connectorCount m → isRoot m r ≡ true → crossed (rangeOf (m .defaults) (slot (filledTo m (connectorCount m)) r)) ≡ false
 unfolding propagated propagatedFaults filledSlots
 propagated-range m h r l e =
     let σ = filledTo m (connectorCount m) in
-    let g = clean-only (isRoot m r && crossed (rangeOf m (slot σ r))) CrossedBounds 6 8 _ r (clean-each (connectorCount m) (propagatedFaults m σ) h r l) in
+    let g = clean-only (isRoot m r && crossed (rangeOf (m .defaults) (slot σ r))) CrossedBounds 6 8 _ r (clean-each (connectorCount m) (propagatedFaults m σ) h r l) in
     rw e at g
 
 all-clean : (m : Model) → hasError (report m) ≡ false → (hasError (allRules m) ≡ false) × (hasError (propagated m) ≡ false)

@@ -94,7 +94,7 @@ pub record Unlike : Type 0 where
   pub input : isIn (connector (modelOf unlike) 1) ≡ true
   pub valueType : connector (modelOf unlike) 1 .valueType ≡ 0
   pub kind : connector (modelOf unlike) 1 .attrs .kind ≡ 1
-  pub range : rangeOf (modelOf (filledOf unlike)) (connector (modelOf (filledOf unlike)) 1 .attrs) ≡ Within (Integer (pos 5) (pos 3))
+  pub range : rangeOf (modelOf (filledOf unlike) .defaults) (connector (modelOf (filledOf unlike)) 1 .attrs) ≡ Within (Integer (pos 5) (pos 3))
 
 pub unlike-computed : Unlike
 unfolding computed witnessed ofBits lt

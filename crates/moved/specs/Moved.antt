@@ -63,8 +63,7 @@ pub record SameConnector (c d : Connector) : Type 0 where
 
 -- f is m, apart from the attributes of connectors and boundary outputs
 pub record Same (m f : Model) : Type 0 where
-  pub integerMin : f .integerMin ≡ m .integerMin
-  pub integerMax : f .integerMax ≡ m .integerMax
+  pub defaults : f .defaults ≡ m .defaults
   pub texts : f .texts ≡ m .texts
   pub blocks : f .blocks ≡ m .blocks
   pub connectorCount : length (f .connectors) ≡ length (m .connectors)
@@ -92,21 +91,21 @@ alikeUnits m a b = alike m (declaredAt a unitBit) (declaredAt b unitBit) && alik
 
 -- a choice of one value for each output and each input without a connection, 'of its own type and inside its own filled range'
 abbrev pub Choice : Model → Model → (ℕ → Datum) → Type 0
-Choice m f x = (i : ℕ) → chosen m i ≡ true → (ofType (connector m i) (x i) ≡ true) × (inside (rangeOf f (connector f i .attrs)) (x i) ≡ true)
+Choice m f x = (i : ℕ) → chosen m i ≡ true → (ofType (connector m i) (x i) ≡ true) × (inside (rangeOf (f .defaults) (connector f i .attrs)) (x i) ≡ true)
 
 -- v alone arrives at input i, 'of that input's type and inside its filled range'
 pub record ArrivesAt (m f : Model) (x : ℕ → Datum) (i : ℕ) : Type 0 where
   pub value : Datum
   pub one : arrivals m x i ≡ value ∷ []
   pub typed : ofType (connector m i) value ≡ true
-  pub ranged : inside (rangeOf f (connector f i .attrs)) value ≡ true
+  pub ranged : inside (rangeOf (f .defaults) (connector f i .attrs)) value ≡ true
 
 -- v alone is delivered to boundary output i, 'of its own kind and inside its filled range'
 pub record DeliveredTo (m f : Model) (x : ℕ → Datum) (i : ℕ) : Type 0 where
   pub value : Datum
   pub one : delivered m x (boundaryOutput m i) ≡ value ∷ []
   pub typed : ofKind (boundaryOutput m i .attrs .kind) value ≡ true
-  pub ranged : inside (rangeOf f (boundaryOutput f i .attrs)) value ≡ true
+  pub ranged : inside (rangeOf (f .defaults) (boundaryOutput f i .attrs)) value ≡ true
 
 -- 'where every Real end set in the image is finite'
 pub record FiniteEnds (m : Model) : Type 0 where

@@ -1,4 +1,4 @@
--- Numbers in bytes. Document 01, 'The model image': all numbers have the low byte first.
+-- Numbers in bytes. All numbers of an image and of a report have the low byte first. FORMAT 2.
 use Prim.Native.Nat.{ℕ, zero, suc, _+_, _*_, _/_, _%_, _^_}
 use mathlib.Core.Bool.{Bool}
 use mathlib.Core.List.{List, [], _∷_}
@@ -28,18 +28,19 @@ abbrev pub byte : List ℕ → ℕ → ℕ
 byte s at = getD s at 0
 
 -- the number that the w bytes at an offset stand for
-unfoldable pub le : ℕ → List ℕ → ℕ → ℕ
-le zero s at = 0
-le (suc w) s at = byte s at + byteRange * le w s (at + 1)
+unfoldable pub leAt : ℕ → List ℕ → ℕ → ℕ
+leAt zero s at = 0
+leAt (suc w) s at = byte s at + byteRange * leAt w s (at + 1)
 
+-- two, four and eight bytes
 abbrev pub le16 : List ℕ → ℕ → ℕ
-le16 = le 2
+le16 = leAt 2
 
 abbrev pub le32 : List ℕ → ℕ → ℕ
-le32 = le 4
+le32 = leAt 4
 
 abbrev pub le64 : List ℕ → ℕ → ℕ
-le64 = le 8
+le64 = leAt 8
 
 -- the w bytes of a number
 unfoldable pub leBytes : ℕ → ℕ → List ℕ

@@ -1,8 +1,8 @@
 -- Every definition of this crate and of those below it, opened: a claim that is `unfolding computed` computes.
 use Prim.Native.Nat.{ℕ}
 use Rattle.base.specs.Computed.{computed as computedBelow}
-use Rattle.numbers.specs.Bytes.{le, leBytes, bit, signed64, real64}
+use Rattle.numbers.specs.Bytes.{leAt, leBytes, bit, signed64, real64}
 
 unfoldable pub computed : ℕ
-unfolding computedBelow le leBytes bit signed64 real64
+unfolding computedBelow leAt leBytes bit signed64 real64
 computed = 0

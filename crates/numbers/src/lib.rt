@@ -7,6 +7,17 @@ ghost use lib.Ieee.Scale.{finite};
 ghost use Rattle.base.specs.Buffers.{patch};
 ghost use Rattle.numbers.specs.Bytes.{byteRange, shortRange, wordRange, byte, le16, le32, le64, leBytes, bit, signed64, real64};
 
+// How many numbers a byte, two bytes and four can hold, each in the type that it is used in.
+const BYTE_RANGE: usize = 256;
+
+const SHORT_RANGE: usize = 65536;
+
+const SHORT_RANGE_U32: u32 = SHORT_RANGE as u32;
+
+pub const SHORT_RANGE_U64: u64 = SHORT_RANGE as u64;
+
+const WORD_RANGE: u64 = 4294967296;
+
 // A byte as a number.
 pub fn wide(x: u8) -> usize
     ensures { λ r. ⌜ (r ≡ x) × (r < byteRange) ⌝ }
@@ -37,7 +48,7 @@ pub fn read16(s: &[u8], at: usize) -> usize
     requires { ⌜ at + 2 ≤ length (now s) ⌝ }
     ensures { λ r. ⌜ (r ≡ le16 (now (s .entry)) at) × (r < shortRange) ⌝ }
 {
-    wide(s[at]) + 256 * wide(s[at + 1])
+    wide(s[at]) + BYTE_RANGE * wide(s[at + 1])
 }
 
 // Of four.
@@ -45,7 +56,7 @@ pub fn read32(s: &[u8], at: usize) -> usize
     requires { ⌜ at + 4 ≤ length (now s) ⌝ }
     ensures { λ r. ⌜ (r ≡ le32 (now (s .entry)) at) × (r < wordRange) ⌝ }
 {
-    read16(s, at) + 65536 * read16(s, at + 2)
+    read16(s, at) + SHORT_RANGE * read16(s, at + 2)
 }
 
 // Of eight.
@@ -55,7 +66,7 @@ pub fn read64(s: &[u8], at: usize) -> u64
 {
     let low = read32(s, at);
     let high = read32(s, at + 4);
-    low as u64 + 4294967296 * (high as u64)
+    low as u64 + WORD_RANGE * (high as u64)
 }
 
 // ---- the same of any index: bytes past the end count as 0
@@ -77,7 +88,7 @@ pub fn at16(s: &[u8], at: usize) -> usize
     if s.len() <= at {
         return 0;
     }
-    byte_at(s, at) + 256 * byte_at(s, at + 1)
+    byte_at(s, at) + BYTE_RANGE * byte_at(s, at + 1)
 }
 
 // Of four.
@@ -93,7 +104,7 @@ pub fn at32(s: &[u8], at: usize) -> usize
     if s.len() - at <= 2 {
         return at16(s, at);
     }
-    at16(s, at) + 65536 * at16(s, at + 2)
+    at16(s, at) + SHORT_RANGE * at16(s, at + 2)
 }
 
 // Of eight.
@@ -111,7 +122,7 @@ pub fn at64(s: &[u8], at: usize) -> u64
     }
     let low = at32(s, at);
     let high = at32(s, at + 4);
-    low as u64 + 4294967296 * (high as u64)
+    low as u64 + WORD_RANGE * (high as u64)
 }
 
 // ---- a number written into a slice from index at on
@@ -130,8 +141,8 @@ pub fn write32(s: &mut [u8], at: usize, v: u32)
     requires { ⌜ at + 4 ≤ length (now s) ⌝ }
     ensures { λ _. ⌜ now (s .exit) ≡ patch (now (s .entry)) at (leBytes 4 v) ⌝ }
 {
-    write16(s, at, (v % 65536) as u16);
-    write16(s, at + 2, (v / 65536) as u16);
+    write16(s, at, (v % SHORT_RANGE_U32) as u16);
+    write16(s, at + 2, (v / SHORT_RANGE_U32) as u16);
 }
 
 // Writes eight.
@@ -139,8 +150,8 @@ pub fn write64(s: &mut [u8], at: usize, v: u64)
     requires { ⌜ at + 8 ≤ length (now s) ⌝ }
     ensures { λ _. ⌜ now (s .exit) ≡ patch (now (s .entry)) at (leBytes 8 v) ⌝ }
 {
-    write32(s, at, (v % 4294967296) as u32);
-    write32(s, at + 4, (v / 4294967296) as u32);
+    write32(s, at, (v % WORD_RANGE) as u32);
+    write32(s, at + 4, (v / WORD_RANGE) as u32);
 }
 
 // ---- what 64 bits stand for

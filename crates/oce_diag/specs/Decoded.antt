@@ -1,12 +1,11 @@
--- The diagnostics that a report's bytes stand for. Document 01, 'The report': 'One diagnostic is tag 0x20, length 16, then severity, code, rule, detail, subject kind,
--- three zero bytes, subject number 4, place 4'. Numbers that no diagnostic has are read as some diagnostic's.
+-- The diagnostics that a report's bytes stand for. FORMAT 7. Numbers that no diagnostic has are read as some diagnostic's.
 use Prim.Native.Nat.{ℕ, _+_, _*_, _<_}
 use mathlib.Core.Bool.{cond}
 use mathlib.Core.List.{List, List·Memᴰ}
 use lib.Dec.{eqb}
 use Rattle.numbers.specs.Bytes.{wordRange, byte, le32}
 use Rattle.oce_diag.specs.Diagnostics.{connectorId, blockId, diagnostic}
-use Rattle.oce_diag.specs.Encoding.{diagnosticSize, severityNumber, codeNumber, textSubjectKind, connectorSubjectKind, blockSubjectKind, subjectNumber, severityPlace, codePlace, rulePlace, detailPlace, kindPlace, numberPlace, placePlace}
+use Rattle.oce_diag.specs.Encoding.{diagnosticSize, severityNumber, codeNumber, textSubjectKind, connectorSubjectKind, blockSubjectKind, subjectNumber, severityPlace, codePlace, rulePlace, detailPlace, subjectKindPlace, subjectNumberPlace, placePlace}
 use Rattle.oce_diag.specs.declared.Severity.{Severity}
 use Rattle.oce_diag.specs.declared.Severity.the-variants.{Error, Warning}
 use Rattle.oce_diag.specs.declared.DiagCode.{DiagCode}
@@ -35,12 +34,13 @@ subjectFrom kind number =
     (cond (eqb kind connectorSubjectKind) (Connector (connectorId number))
     (cond (eqb kind blockSubjectKind) (Block (blockId number)) Nothing))
 
--- the diagnostic whose bytes begin at an offset, and diagnostic i of a report
+-- the diagnostic whose bytes begin at an offset
 unfoldable pub decodedAt : List ℕ → ℕ → Diagnostic
 decodedAt b at =
     diagnostic (severityOf (byte b (at + severityPlace))) (codeOf (byte b (at + codePlace))) (byte b (at + rulePlace)) (byte b (at + detailPlace))
-    (subjectFrom (byte b (at + kindPlace)) (le32 b (at + numberPlace))) (le32 b (at + placePlace))
+    (subjectFrom (byte b (at + subjectKindPlace)) (le32 b (at + subjectNumberPlace))) (le32 b (at + placePlace))
 
+-- diagnostic i of a report
 unfoldable pub diagnosticAt : List ℕ → ℕ → Diagnostic
 diagnosticAt b i = decodedAt b (diagnosticSize * i)
 

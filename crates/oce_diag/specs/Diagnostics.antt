@@ -1,4 +1,4 @@
--- Diagnostics and their subjects.
+-- Diagnostics and their subjects. FORMAT 7 and 8.
 use Prim.Native.Nat.{ℕ}
 use mathlib.Core.Bool.{Bool, true, false, cond, not}
 use mathlib.Core.List.{List}
@@ -23,20 +23,23 @@ connectorId n = record { 0 = n }
 abbrev pub blockId : ℕ → BlockId
 blockId n = record { 0 = n }
 
--- `subject_of`: a connector's iri when known, else `connector#` and its id
+-- `subject_of`: the iri text, or else the connector by its id
 unfoldable pub connectorSubject : ℕ → ConnectorId → Subject
 connectorSubject iri id = cond (eqb iri noText) (OfConnector id) (Text iri)
 
+-- a connector's subject
 unfoldable pub subjectOf : Connector → Subject
 subjectOf c = connectorSubject (c .iri) (connectorId (c .id))
 
--- `block_subject_of`: a block's instance iri when known, else `block#` and its id
+-- `block_subject_of`: the instance text, or else the block by its id
 unfoldable pub blockSubject : ℕ → BlockId → Subject
 blockSubject instance id = cond (eqb instance noText) (OfBlock id) (Text instance)
 
+-- a block's subject
 unfoldable pub blockSubjectOf : Block → Subject
 blockSubjectOf b = blockSubject (b .instanceIri) (blockId (b .id))
 
+-- a diagnostic of its parts
 unfoldable pub diagnostic : Severity → DiagCode → ℕ → ℕ → Subject → ℕ → Diagnostic
 diagnostic severity code rule detail subject place = record {
   severity = severity;
@@ -59,6 +62,7 @@ abbrev pub isErrorSeverity : Severity → Bool
 isErrorSeverity Error = true
 isErrorSeverity Warning = false
 
+-- the diagnostic is an error
 abbrev pub isError : Diagnostic → Bool
 isError d = isErrorSeverity (d .severity)
 
@@ -66,7 +70,7 @@ isError d = isErrorSeverity (d .severity)
 unfoldable pub hasError : List Diagnostic → Bool
 hasError ds = any isError ds
 
--- document 01: 'the answer is the number of errors and of warnings'
+-- the two numbers of an answer: of errors and of warnings. FORMAT 1
 unfoldable pub errors : List Diagnostic → ℕ
 errors ds = length (keep isError ds)
 

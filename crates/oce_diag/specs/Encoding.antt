@@ -1,5 +1,4 @@
--- The bytes of a report. Document 01, 'The report': 'One diagnostic is tag 0x20, length 16, then severity, code, rule, detail, subject kind, three zero bytes,
--- subject number 4, place 4'.
+-- The bytes of a report. FORMAT 7 and 8.
 use Prim.Native.Nat.{ℕ, _+_}
 use mathlib.Core.List.{List, [], _∷_, _++_}
 use Rattle.numbers.specs.Bytes.{leBytes}
@@ -12,6 +11,7 @@ use Rattle.oce_diag.specs.declared.Subject.{Subject}
 use Rattle.oce_diag.specs.declared.Subject.the-variants.{Nothing, Text, Connector, Block}
 use Rattle.oce_diag.specs.declared.Diagnostic.{Diagnostic}
 
+-- the tag of a diagnostic's field
 abbrev pub diagnosticTag : ℕ
 diagnosticTag = 0x20
 
@@ -22,7 +22,7 @@ diagnosticLength = 16
 abbrev pub diagnosticSize : ℕ
 diagnosticSize = leadingBytes + diagnosticLength
 
--- document 01's numbers for a severity, a code and a subject kind
+-- the numbers of severities and codes
 abbrev pub severityNumber : Severity → ℕ
 severityNumber Error = 0
 severityNumber Warning = 1
@@ -37,6 +37,7 @@ codeNumber BoundMismatch = 6
 codeNumber CrossedBounds = 7
 codeNumber DisplayUnitDivergence = 8
 
+-- subject kinds: none, a text, a connector, a block
 abbrev pub noSubjectKind : ℕ
 noSubjectKind = 0
 
@@ -49,6 +50,7 @@ connectorSubjectKind = 2
 abbrev pub blockSubjectKind : ℕ
 blockSubjectKind = 3
 
+-- the number of a subject's kind
 abbrev pub subjectKind : Subject → ℕ
 subjectKind Nothing = noSubjectKind
 subjectKind (Text t) = textSubjectKind
@@ -62,7 +64,7 @@ subjectNumber (Text t) = t
 subjectNumber (Connector i) = i .0
 subjectNumber (Block i) = i .0
 
--- where its parts stand, from its first byte
+-- where the parts of a diagnostic stand, from its first byte
 abbrev pub severityPlace : ℕ
 severityPlace = leadingBytes
 
@@ -75,21 +77,23 @@ rulePlace = codePlace + 1
 abbrev pub detailPlace : ℕ
 detailPlace = rulePlace + 1
 
-abbrev pub kindPlace : ℕ
-kindPlace = detailPlace + 1
+abbrev pub subjectKindPlace : ℕ
+subjectKindPlace = detailPlace + 1
 
-abbrev pub numberPlace : ℕ
-numberPlace = kindPlace + 4
+abbrev pub subjectNumberPlace : ℕ
+subjectNumberPlace = subjectKindPlace + 4
 
 abbrev pub placePlace : ℕ
-placePlace = numberPlace + 4
+placePlace = subjectNumberPlace + 4
 
+-- a diagnostic's bytes: tag, length, severity, code, rule, detail, subject kind, three zero bytes, subject number, place
 unfoldable pub diagnosticBytes : Diagnostic → List ℕ
 diagnosticBytes d =
     diagnosticTag ∷ leBytes 2 diagnosticLength
     ++ severityNumber (d .severity) ∷ codeNumber (d .code) ∷ d .rule ∷ d .detail ∷ subjectKind (d .subject) ∷ 0 ∷ 0 ∷ 0
     ∷ leBytes 4 (subjectNumber (d .subject)) ++ leBytes 4 (d .place)
 
+-- a report's: one diagnostic after the other
 unfoldable pub reportBytes : List Diagnostic → List ℕ
 reportBytes [] = []
 reportBytes (d ∷ ds) = diagnosticBytes d ++ reportBytes ds

@@ -42,7 +42,7 @@ pub enum Subject {
     Block(BlockId),
 }
 
-// One diagnostic of a report. Rule, detail and place are document 01's; the Rust has a message instead.
+// One diagnostic of a report. Rule, detail and place stand for the Rust's message.
 pub struct Diagnostic {
     pub severity: Severity,
     pub code: DiagCode,
@@ -74,11 +74,11 @@ pub const RULE_PLACE: usize = CODE_PLACE + 1;
 
 pub const DETAIL_PLACE: usize = RULE_PLACE + 1;
 
-pub const KIND_PLACE: usize = DETAIL_PLACE + 1;
+pub const SUBJECT_KIND_PLACE: usize = DETAIL_PLACE + 1;
 
-pub const NUMBER_PLACE: usize = KIND_PLACE + 4;
+pub const SUBJECT_NUMBER_PLACE: usize = SUBJECT_KIND_PLACE + 4;
 
-pub const PLACE_PLACE: usize = NUMBER_PLACE + 4;
+pub const PLACE_PLACE: usize = SUBJECT_NUMBER_PLACE + 4;
 
 // The numbers of the kinds of subject.
 const NO_SUBJECT: u8 = 0;
@@ -331,10 +331,10 @@ pub fn decode(report: &[u8], at: usize) -> Diagnostic
     requires { ⌜ at + diagnosticSize < longRange ⌝ }
     ensures { λ r. ⌜ r ≡ decodedAt (now (report .entry)) at ⌝ }
 {
-    let number = at32(report, at + NUMBER_PLACE) as u32;
+    let number = at32(report, at + SUBJECT_NUMBER_PLACE) as u32;
     let severity = severity_of(byte_of(report, at + SEVERITY_PLACE));
     let code = code_of(byte_of(report, at + CODE_PLACE));
-    let subject = subject_from(byte_of(report, at + KIND_PLACE), number);
+    let subject = subject_from(byte_of(report, at + SUBJECT_KIND_PLACE), number);
     Diagnostic {
         severity,
         code,

@@ -9,7 +9,7 @@ use lib.ListN.{length, getD, take, drop}
 use lib.Dec.{ltb}
 use lib.Seq.{drop-cons, drop-drop, take-add}
 use borrow.Author.Tests.{le-ltb}
-use Rattle.numbers.specs.Bytes.{byte, le, leBytes}
+use Rattle.numbers.specs.Bytes.{byte, leAt, leBytes}
 use Rattle.oce_model.specs.Format.{attrsLength}
 use Rattle.oce_model.specs.Attributes.{Attrs, attrsAt, attrsBytes, noAttrs, num}
 use Rattle.numbers.proofs.Bytes.{bytes-le, le-bytes, le-fits, le-same}
@@ -63,32 +63,32 @@ module _ (k m n₀ n₁ n₂ n₃ n₄ n₅ : ℕ) where
   unfolding six attrsBytes
   lead₁ = refl
 
-  place₀ : n₀ < 256 ^ 2 → le 2 (attrsBytes six) 2 ≡ n₀
-  unfolding six attrsBytes le leBytes
+  place₀ : n₀ < 256 ^ 2 → leAt 2 (attrsBytes six) 2 ≡ n₀
+  unfolding six attrsBytes leAt leBytes
   place₀ h = le-bytes 2 n₀ [] h
 
-  place₁ : n₁ < 256 ^ 2 → le 2 (attrsBytes six) 4 ≡ n₁
-  unfolding six attrsBytes le leBytes
+  place₁ : n₁ < 256 ^ 2 → leAt 2 (attrsBytes six) 4 ≡ n₁
+  unfolding six attrsBytes leAt leBytes
   place₁ h = le-bytes 2 n₁ [] h
 
-  place₂ : n₂ < 256 ^ 2 → le 2 (attrsBytes six) 6 ≡ n₂
-  unfolding six attrsBytes le leBytes
+  place₂ : n₂ < 256 ^ 2 → leAt 2 (attrsBytes six) 6 ≡ n₂
+  unfolding six attrsBytes leAt leBytes
   place₂ h = le-bytes 2 n₂ [] h
 
-  place₃ : n₃ < 256 ^ 8 → le 8 (attrsBytes six) 8 ≡ n₃
-  unfolding six attrsBytes le leBytes
+  place₃ : n₃ < 256 ^ 8 → leAt 8 (attrsBytes six) 8 ≡ n₃
+  unfolding six attrsBytes leAt leBytes
   place₃ h = le-bytes 8 n₃ [] h
 
-  place₄ : n₄ < 256 ^ 8 → le 8 (attrsBytes six) 16 ≡ n₄
-  unfolding six attrsBytes le leBytes
+  place₄ : n₄ < 256 ^ 8 → leAt 8 (attrsBytes six) 16 ≡ n₄
+  unfolding six attrsBytes leAt leBytes
   place₄ h = le-bytes 8 n₄ [] h
 
-  place₅ : n₅ < 256 ^ 8 → le 8 (attrsBytes six) 24 ≡ n₅
-  unfolding six attrsBytes le leBytes
+  place₅ : n₅ < 256 ^ 8 → leAt 8 (attrsBytes six) 24 ≡ n₅
+  unfolding six attrsBytes leAt leBytes
   place₅ h = le-bytes 8 n₅ [] h
 
   module _ (t : List ℕ) (at : ℕ) (h : (i : ℕ) → i < attrsLength → byte t (at + i) ≡ byte (attrsBytes six) i) where
-    back : (w o : ℕ) → o + w ≤ attrsLength → le w t (at + o) ≡ le w (attrsBytes six) o
+    back : (w o : ℕ) → o + w ≤ attrsLength → leAt w t (at + o) ≡ leAt w (attrsBytes six) o
     back w o l = le-same w t (attrsBytes six) (at + o) o (λ i k. ap (λ n. byte t n) (right i) ∙ h (o + i) (omega arith))
       where
         right : (i : ℕ) → at + o + i ≡ at + (o + i)
@@ -139,7 +139,7 @@ unfolding attrsAt
 attrs-same s t at h =
     rw (h at (omega arith) (omega arith), h (at + 1) (omega arith) (omega arith), part 2 2 (omega arith), part 2 4 (omega arith), part 2 6 (omega arith), part 8 8 (omega arith), part 8 16 (omega arith), part 8 24 (omega arith))
   where
-    part : (w o : ℕ) → o + w ≤ attrsLength → le w t (at + o) ≡ le w s (at + o)
+    part : (w o : ℕ) → o + w ≤ attrsLength → leAt w t (at + o) ≡ leAt w s (at + o)
     part w o l = le-same w t s (at + o) (at + o) (λ i k. h (at + o + i) (omega arith) (omega arith))
 
 -- ---- read and written back

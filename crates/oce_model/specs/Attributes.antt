@@ -1,4 +1,4 @@
--- Attributes: 32 bytes of the image, and what they declare. Document 01, 'Attributes: kind 1, set bits 1, ..'; the Rust's `Attrs`, `RealAttrs` and `IntAttrs`.
+-- Attributes: 32 bytes of the image, and what they declare. FORMAT 4; the Rust's `Attrs`, `RealAttrs` and `IntAttrs`.
 use Prim.Native.Nat.{ℕ, _+_, _^_}
 use mathlib.Core.Bool.{Bool, true, false}
 use mathlib.Core.List.{List, [], _∷_, _++_}
@@ -13,10 +13,11 @@ pub record Attrs : Type 0 where
   pub marks : ℕ
   pub nums : List ℕ
 
+-- nothing is declared
 unfoldable pub noAttrs : Attrs
 noAttrs = record { kind = 0; marks = 0; nums = [] }
 
--- the attributes at an offset, and their bytes
+-- the attributes at an offset
 unfoldable pub attrsAt : List ℕ → ℕ → Attrs
 attrsAt s at = record {
   kind = byte s at;
@@ -26,19 +27,22 @@ attrsAt s at = record {
       ∷ le64 s (at + attrsMinAt) ∷ le64 s (at + attrsMaxAt) ∷ le64 s (at + attrsNominalAt) ∷ [];
 }
 
+-- the number for bit p
 abbrev pub num : Attrs → ℕ → ℕ
 num a p = getD (a .nums) p 0
 
+-- their bytes
 unfoldable pub attrsBytes : Attrs → List ℕ
 attrsBytes a =
     a .kind ∷ a .marks ∷ leBytes 2 (num a quantityBit) ++ leBytes 2 (num a unitBit) ++ leBytes 2 (num a displayUnitBit)
     ++ leBytes 8 (num a minBit) ++ leBytes 8 (num a maxBit) ++ leBytes 8 (num a nominalBit)
 
--- what is declared under bit p: its number, if the bit is set. Document 01: 'declared is what the image marks as set'
+-- a number, if its bit is set
 abbrev pub marked : Bool → ℕ → Option ℕ
 marked true v = some v
 marked false v = none
 
+-- what is declared under bit p: its number, if the bit is set
 unfoldable pub declaredAt : Attrs → ℕ → Option ℕ
 declaredAt a p = marked (bit (a .marks) p) (num a p)
 

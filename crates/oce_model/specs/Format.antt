@@ -1,9 +1,9 @@
--- The numbers of document 01, 'The model image'. Every other file cites them by these names.
+-- The numbers of the image format, FORMAT 2 to 4. Every other file cites them by these names.
 use Prim.Native.Nat.{ℕ, _+_}
 use mathlib.Core.List.{List, [], _∷_}
 use lib.ListN.{getD}
 
--- ---- fields
+-- ---- fields. FORMAT 2
 
 -- the bytes of a field before its contents: a tag and a length of two
 abbrev pub leadingBytes : ℕ
@@ -13,6 +13,7 @@ leadingBytes = 3
 abbrev pub fieldLengthAt : ℕ
 fieldLengthAt = 1
 
+-- the tags. FORMAT 3
 abbrev pub headTag : ℕ
 headTag = 1
 
@@ -40,7 +41,8 @@ boundaryOutputTag = 8
 abbrev pub highestTag : ℕ
 highestTag = boundaryOutputTag
 
--- ---- the table's last column: the most records of each tag
+-- ---- the most records of each tag. FORMAT 3
+
 abbrev pub mostTexts : ℕ
 mostTexts = 1024
 
@@ -62,10 +64,13 @@ mostBoundaryInputs = 256
 abbrev pub mostBoundaryOutputs : ℕ
 mostBoundaryOutputs = 256
 
+-- by tag; there is one head
 unfoldable pub most : ℕ → ℕ
 most t = getD (0 ∷ 1 ∷ mostTexts ∷ mostBlocks ∷ mostConnectors ∷ mostConnections ∷ mostExternalInputs ∷ mostBoundaryInputs ∷ mostBoundaryOutputs ∷ []) t 0
 
--- ---- the table's contents: the bytes of each tag's contents. A text has 0 to longestText, a block blockLength and portLength for each port
+-- ---- the bytes of each tag's contents. FORMAT 3
+
+-- a text has at most longestText, a block blockLength and portLength for each port
 abbrev pub longestText : ℕ
 longestText = 255
 
@@ -75,9 +80,11 @@ blockLength = 10
 abbrev pub portLength : ℕ
 portLength = 4
 
+-- the most inputs of a block, and the most outputs
 abbrev pub mostPorts : ℕ
 mostPorts = 256
 
+-- the others have a fixed length
 abbrev pub headLength : ℕ
 headLength = 20
 
@@ -96,6 +103,7 @@ boundaryInputLength = 34
 abbrev pub boundaryOutputLength : ℕ
 boundaryOutputLength = 38
 
+-- by tag
 unfoldable pub fixedLength : ℕ → ℕ
 fixedLength t = getD (0 ∷ headLength ∷ 0 ∷ 0 ∷ connectorLength ∷ connectionLength ∷ externalInputLength ∷ boundaryInputLength ∷ boundaryOutputLength ∷ []) t 0
 
@@ -115,7 +123,8 @@ boundaryInputSize = leadingBytes + boundaryInputLength
 abbrev pub boundaryOutputSize : ℕ
 boundaryOutputSize = leadingBytes + boundaryOutputLength
 
--- ---- the whole image: a head alone has the fewest bytes
+-- ---- the whole image: a head alone has the fewest bytes. FORMAT 3
+
 abbrev pub shortestImage : ℕ
 shortestImage = leadingBytes + headLength
 
@@ -123,10 +132,12 @@ abbrev pub longestImage : ℕ
 longestImage = 65535
 
 -- ---- the head
+
 abbrev pub version : ℕ
 version = 1
 
--- ---- types and attribute kinds
+-- ---- types and attribute kinds. FORMAT 3
+
 abbrev pub realKind : ℕ
 realKind = 0
 
@@ -143,27 +154,33 @@ abbrev pub enumKind : ℕ
 enumKind = 4
 
 -- ---- directions, as the Rust's `Dir`
+
 abbrev pub dirIn : ℕ
 dirIn = 0
 
 abbrev pub dirOut : ℕ
 dirOut = 1
 
--- ---- texts: 'bytes of 0x20 to 0x7E'
+-- ---- texts
+
+-- the bytes that they may hold go from the first to the last
 abbrev pub firstTextByte : ℕ
 firstTextByte = 0x20
 
 abbrev pub lastTextByte : ℕ
 lastTextByte = 0x7E
 
--- ---- the text number that means none, only for a block's instance and a connector's iri
+-- the text number that means none, only for a block's instance and a connector's iri
 abbrev pub noText : ℕ
 noText = 65535
 
--- ---- attributes: how many bytes, and the bits that mark what is set. The first six are also the places of their numbers
+-- ---- attributes. FORMAT 4
+
+-- how many bytes they have
 abbrev pub attrsLength : ℕ
 attrsLength = 32
 
+-- the bits that mark what is set; the first six are also the places of their numbers
 abbrev pub quantityBit : ℕ
 quantityBit = 0
 
@@ -189,7 +206,7 @@ unboundedBit = 6
 abbrev pub unboundedValueBit : ℕ
 unboundedValueBit = 7
 
--- ---- where each part stands, from the start of its field: the table's contents in their order, behind tag and length
+-- ---- where each part stands, from the start of its field: the contents in their order, behind tag and length. FORMAT 3
 
 -- the head
 abbrev pub headVersionAt : ℕ
@@ -270,7 +287,7 @@ boundaryOutputSourceAt = boundaryOutputIriAt + 2
 abbrev pub boundaryOutputAttrs : ℕ
 boundaryOutputAttrs = boundaryOutputSourceAt + 4
 
--- attributes, from their own start
+-- attributes, from their own start. FORMAT 4
 abbrev pub attrsMarksAt : ℕ
 attrsMarksAt = 1
 

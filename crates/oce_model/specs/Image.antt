@@ -1,4 +1,4 @@
--- The fields of an image. Document 01, 'A field is a tag byte, a two-byte length, then contents'.
+-- The fields of an image, which are walked by their lengths alone. FORMAT 2.
 use Prim.Native.Nat.{ℕ, zero, suc, _+_}
 use mathlib.Core.Bool.{Bool, cond}
 use mathlib.Core.List.{List, [], _∷_}
@@ -14,7 +14,7 @@ pub use Rattle.oce_model.specs.declared.Field.{Field}
 unfoldable pub fieldEnd : List ℕ → ℕ → ℕ
 fieldEnd s at = at + leadingBytes + le16 s (at + fieldLengthAt)
 
--- the field at an offset
+-- the field at an offset, behind one with the tag prev (0: none), with ord fields of its tag right before it
 unfoldable pub fieldAt : List ℕ → ℕ → ℕ → ℕ → Field
 fieldAt s at prev ord = record { at = at; tag = byte s at; len = le16 s (at + fieldLengthAt); prev = prev; ord = ord }
 
@@ -31,16 +31,18 @@ fieldsFrom (suc k) s at prev n =
     let rest = fieldsFrom k s (fieldEnd s at) (byte s at) (suc o) in
     cond (leb (fieldEnd s at) (length s)) (fieldAt s at prev o ∷ rest) []
 
+-- the fields of an image
 unfoldable pub fields : List ℕ → List Field
 fields s = fieldsFrom (length s) s 0 0 0
 
--- the offset at which the fields stop: the image's length, or the offset of the first field that runs past it
+-- where the fields from an offset on stop; the first number as above
 unfoldable pub stopFrom : ℕ → List ℕ → ℕ → ℕ
 stopFrom zero s at = at
 stopFrom (suc k) s at =
     let rest = stopFrom k s (fieldEnd s at) in
     cond (leb (fieldEnd s at) (length s)) rest at
 
+-- the offset at which the fields stop: the image's length, or the offset of the first field that runs past it
 unfoldable pub stop : List ℕ → ℕ
 stop s = stopFrom (length s) s 0
 
@@ -53,10 +55,11 @@ unfoldable pub first : (Field → Bool) → List Field → Option ℕ
 first p [] = none
 first p (f ∷ fs) = let t = first p fs in cond (p f) (some (f .at)) t
 
--- where the records of tag t begin: the offset of the first field with a tag from t on, the image's length if there is none
+-- an offset, or else n
 abbrev pub orEnd : Option ℕ → ℕ → ℕ
 orEnd none n = n
 orEnd (some at) n = at
 
+-- where the records of tag t begin: the offset of the first field with a tag from t on, the image's length if there is none
 unfoldable pub startOf : ℕ → List ℕ → ℕ
 startOf t s = orEnd (first (λ f. leb t (f .tag)) (fields s)) (length s)

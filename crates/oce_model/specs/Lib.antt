@@ -1,4 +1,4 @@
--- The model image of document 01: its table, attributes, fields, texts, records, refusals 1 to 8, and images built of records.
+-- The model image: the numbers of its format, attributes, fields, texts, records, refusals 1 to 8, and images built of records.
 pub mod Format
 pub mod Attributes
 pub mod Image

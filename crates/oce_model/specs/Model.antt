@@ -1,4 +1,4 @@
--- The model that an image holds: its records, in the order of their fields. The Rust's `ModelGraph`, less what document 01 leaves out.
+-- The model that an image holds: its records, in the order of their fields, as far as the rules ask for them. FORMAT 3; the Rust's `ModelGraph`.
 use Prim.Native.Nat.{ℕ, _+_, _*_}
 use mathlib.Core.Bool.{Bool}
 use mathlib.Core.List.{List, [], _∷_, map}
@@ -12,14 +12,19 @@ use Rattle.oce_model.specs.Attributes.{Attrs, noAttrs, attrsAt}
 use Rattle.oce_model.specs.Image.{Field, fields, ofTag}
 use Rattle.oce_model.specs.Texts.{textOf}
 
--- `BlockInstance`; instanceIri is a text number, or noText
+-- the head's Integer defaults: what an Integer end is that isn't set. FORMAT 13
+pub record Defaults : Type 0 where
+  pub min : ℤ
+  pub max : ℤ
+
+-- `BlockInstance`: its ports are connectors' numbers; instanceIri is a text number, or noText
 pub record Block : Type 0 where
   pub id : ℕ
   pub instanceIri : ℕ
   pub inputs : List ℕ
   pub outputs : List ℕ
 
--- `Connector`; valueType and enumClass are the Rust's `ValueType`, iri is a text number, or noText
+-- `Connector`: block is a block's number; valueType and enumClass are the Rust's `ValueType`; iri is a text number, or noText
 pub record Connector : Type 0 where
   pub id : ℕ
   pub block : ℕ
@@ -29,26 +34,25 @@ pub record Connector : Type 0 where
   pub iri : ℕ
   pub attrs : Attrs
 
--- `Connection`: from one connector to another
+-- `Connection`: from one connector to another, by their numbers
 pub record Connection : Type 0 where
   pub from : ℕ
   pub to : ℕ
 
--- `BoundaryInput`
+-- `BoundaryInput`: iri is a text number
 pub record BoundaryInput : Type 0 where
   pub iri : ℕ
   pub attrs : Attrs
 
--- `BoundaryOutput`
+-- `BoundaryOutput`: iri is a text number, source a connector's number
 pub record BoundaryOutput : Type 0 where
   pub iri : ℕ
   pub source : ℕ
   pub attrs : Attrs
 
--- `ModelGraph`, with the head's Integer defaults and the texts that the Rust holds as strings
+-- `ModelGraph`, with the head's Integer defaults and, since records refer to texts by number, the texts. An external input is a connector's id
 pub record Model : Type 0 where
-  pub integerMin : ℤ
-  pub integerMax : ℤ
+  pub defaults : Defaults
   pub texts : List (List ℕ)
   pub blocks : List Block
   pub connectors : List Connector
@@ -57,19 +61,20 @@ pub record Model : Type 0 where
   pub boundaryInputs : List BoundaryInput
   pub boundaryOutputs : List BoundaryOutput
 
--- ---- a record of each kind, read at the offset of its field: the table's contents in their order, behind tag and length
+-- ---- a record of each kind, read at the offset of its field. FORMAT 3
 
 -- n ids of 4 bytes from an offset on
 unfoldable pub idsAt : List ℕ → ℕ → ℕ → List ℕ
 idsAt s at n = tab n (λ i. le32 s (at + portLength * i))
 
--- id 4, instance text 2, input count 2, output count 2, then ids of 4, inputs first
+-- a block's input count and output count
 abbrev pub inputCountAt : List ℕ → ℕ → ℕ
 inputCountAt s at = le16 s (at + blockInputsAt)
 
 abbrev pub outputCountAt : List ℕ → ℕ → ℕ
 outputCountAt s at = le16 s (at + blockOutputsAt)
 
+-- id 4, instance text 2, input count 2, output count 2, then ids of 4, inputs first
 unfoldable pub blockAt : List ℕ → ℕ → Block
 blockAt s at = record {
   id = le32 s (at + blockIdAt);
@@ -106,13 +111,16 @@ boundaryInputAt s at = record { iri = le16 s (at + boundaryInputIriAt); attrs = 
 unfoldable pub boundaryOutputAt : List ℕ → ℕ → BoundaryOutput
 boundaryOutputAt s at = record { iri = le16 s (at + boundaryOutputIriAt); source = le32 s (at + boundaryOutputSourceAt); attrs = attrsAt s (at + boundaryOutputAttrs) }
 
--- the model, read off the fields. The head is at offset 0: version 2, zero bytes 2, Integer default min 8, max 8
+-- the head stands at offset 0: version 2, zero bytes 2, Integer default min 8, max 8
+abbrev pub defaultsOf : List ℕ → Defaults
+defaultsOf s = record { min = signed64 (le64 s headMinAt); max = signed64 (le64 s headMaxAt) }
+
+-- the model, read off the fields
 unfoldable pub modelOf : List ℕ → Model
 modelOf s =
     let fs = fields s in
     record {
-      integerMin = signed64 (le64 s headMinAt);
-      integerMax = signed64 (le64 s headMaxAt);
+      defaults = defaultsOf s;
       texts = map (textOf s) (ofTag textTag fs);
       blocks = map (λ f. blockAt s (f .at)) (ofTag blockTag fs);
       connectors = map (λ f. connectorAt s (f .at)) (ofTag connectorTag fs);
@@ -122,8 +130,9 @@ modelOf s =
       boundaryOutputs = map (λ f. boundaryOutputAt s (f .at)) (ofTag boundaryOutputTag fs);
     }
 
--- ---- records by number, and what stands for one that is not there
+-- ---- records by number, FORMAT 3
 
+-- what stands for one that is not there
 unfoldable pub noBlock : Block
 noBlock = record { id = 0; instanceIri = 0; inputs = []; outputs = [] }
 
@@ -139,6 +148,7 @@ noBoundaryInput = record { iri = 0; attrs = noAttrs }
 unfoldable pub noBoundaryOutput : BoundaryOutput
 noBoundaryOutput = record { iri = 0; source = 0; attrs = noAttrs }
 
+-- text i, block i, ..
 unfoldable pub text : Model → ℕ → List ℕ
 text m i = getD (m .texts) i []
 
@@ -157,6 +167,7 @@ boundaryInput m i = getD (m .boundaryInputs) i noBoundaryInput
 unfoldable pub boundaryOutput : Model → ℕ → BoundaryOutput
 boundaryOutput m i = getD (m .boundaryOutputs) i noBoundaryOutput
 
+-- how many there are
 abbrev pub blockCount : Model → ℕ
 blockCount m = length (m .blocks)
 
@@ -172,7 +183,7 @@ boundaryInputCount m = length (m .boundaryInputs)
 abbrev pub boundaryOutputCount : Model → ℕ
 boundaryOutputCount m = length (m .boundaryOutputs)
 
--- a number is that of a block, of a connector
+-- a number is that of a block, of a connector; any other is out of range
 abbrev pub isBlock : Model → ℕ → Bool
 isBlock m i = ltb i (blockCount m)
 

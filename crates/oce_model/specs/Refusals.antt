@@ -1,4 +1,4 @@
--- Document 01, 'When an image is turned away': refusals 1 to 8, the lowest number first, each with the offset of the first field at fault.
+-- When an image is turned away: refusals 1 to 8, in their order, and at the end the answer. FORMAT 6.
 use Prim.Native.Nat.{ℕ, zero, suc, _+_, _*_}
 use mathlib.Core.Bool.{Bool, cond, not, _&&_, _||_, false}
 use mathlib.Core.List.{List}
@@ -18,30 +18,50 @@ pub record Refusal : Type 0 where
   pub number : ℕ
   pub offset : ℕ
 
--- 3: 'A tag is outside 1 to 8 or below the one before, the first isn't 1, or a second 1 stands'. prev is the tag before, 0 for the first field
+-- ---- 1 and 2: the whole image
+
+-- 1: it is shorter or longer than an image may be
+abbrev pub badSize : List ℕ → Bool
+badSize s = ltb (length s) shortestImage || ltb longestImage (length s)
+
+-- 2: a field runs past its end; the fields stop there
+abbrev pub runsPast : List ℕ → Bool
+runsPast s = ltb (stop s) (length s)
+
+-- ---- 3: tags
+
+-- a tag is 0, above the highest or below the one before, the first isn't the head's, or there is a second head; prev is the tag before, 0 for the first field
 unfoldable pub tagIsBad : ℕ → ℕ → Bool
 tagIsBad t prev = eqb t 0 || ltb highestTag t || ltb t prev || cond (eqb prev 0) (not (eqb t headTag)) (eqb t headTag)
 
+-- the same of a field
 unfoldable pub badTag : Field → Bool
 badTag f = tagIsBad (f .tag) (f .prev)
 
--- 4: 'A length isn't the table's, or a block's port count exceeds 256'
+-- ---- 4: lengths
+
+-- a block's length isn't that of its ports, or it has too many inputs or outputs
 unfoldable pub badBlockLength : List ℕ → Field → Bool
 badBlockLength s f =
     not (eqb (f .len) (blockLength + portLength * (inputCountAt s (f .at) + outputCountAt s (f .at))))
     || ltb mostPorts (inputCountAt s (f .at)) || ltb mostPorts (outputCountAt s (f .at))
 
+-- a length isn't the one of its tag. FORMAT 3
 unfoldable pub badLength : List ℕ → Field → Bool
 badLength s f =
     cond (eqb (f .tag) textTag) (ltb longestText (f .len))
     (cond (eqb (f .tag) blockTag) (badBlockLength s f)
     (not (eqb (f .len) (fixedLength (f .tag)))))
 
--- 5: 'A kind has more records than the table allows (at fault: the first beyond)'
+-- ---- 5: counts
+
+-- as many fields of its tag as there may be stand before it
 unfoldable pub tooMany : Field → Bool
 tooMany f = leb (most (f .tag)) (f .ord)
 
--- 6: 'Version, zero bytes, direction, type, enum class or the attribute rules are broken'
+-- ---- 6: contents. FORMAT 3 and 4
+
+-- the head's version
 abbrev pub versionAt : List ℕ → ℕ → ℕ
 versionAt s at = le16 s (at + headVersionAt)
 
@@ -49,19 +69,21 @@ versionAt s at = le16 s (at + headVersionAt)
 abbrev pub zeroBytesAt : List ℕ → ℕ → ℕ
 zeroBytesAt s at = le16 s (at + headZerosAt)
 
+-- another version, or zero bytes that aren't
 unfoldable pub badHead : List ℕ → ℕ → Bool
 badHead s at = not (eqb (versionAt s at) version) || not (eqb (zeroBytesAt s at) 0)
 
+-- no such direction, no such type, or an enum class of another type than Enum
 unfoldable pub badConnector : Connector → Bool
 badConnector c =
     ltb dirOut (c .dir) || ltb enumKind (c .valueType)
     || (not (eqb (c .valueType) enumKind) && not (eqb (c .enumClass) 0))
 
--- 'An unset field is all zero bytes'
+-- bit p isn't set, and the number under it isn't 0
 unfoldable pub stray : Attrs → ℕ → Bool
 stray a p = not (bit (a .marks) p) && not (eqb (num a p) 0)
 
--- 'bit 7 only stands with bit 6, kind Integer sets only bits 3 and 4, kinds 2 to 4 set none'
+-- no such kind; a value of unbounded that isn't set; a bit that the kind doesn't have: Integer has min and max alone, the kinds behind it none; a number that isn't set
 unfoldable pub badAttrs : Attrs → Bool
 badAttrs a =
     let b = a .marks in
@@ -77,30 +99,38 @@ attrsOffset f =
     (cond (eqb (f .tag) boundaryInputTag) (some (f .at + boundaryInputAttrs))
     (cond (eqb (f .tag) boundaryOutputTag) (some (f .at + boundaryOutputAttrs)) none))
 
+-- a test of the attributes at an offset, if there are any
 abbrev pub onAttrs : List ℕ → (Attrs → Bool) → Option ℕ → Bool
 onAttrs s p none = false
 onAttrs s p (some at) = p (attrsAt s at)
 
+-- a field's contents break a rule of theirs
 unfoldable pub badContents : List ℕ → Field → Bool
 badContents s f =
     (eqb (f .tag) headTag && badHead s (f .at))
     || (eqb (f .tag) connectorTag && badConnector (connectorAt s (f .at)))
     || onAttrs s badAttrs (attrsOffset f)
 
--- 7: 'A text byte is outside 0x20 to 0x7E'
+-- ---- 7: texts
+
+-- a text has a byte that no text may hold
 unfoldable pub badText : List ℕ → Field → Bool
 badText s f = eqb (f .tag) textTag && any (λ b. not (isTextByte b)) (textOf s f)
 
--- 8: 'A text number in use isn't below the number of texts and isn't an allowed none'; n is the number of texts
+-- ---- 8: text numbers; n is the number of texts
+
+-- a text number of attributes that is set is no text's
 unfoldable pub badTextNumbers : ℕ → Attrs → Bool
 badTextNumbers n a =
     (bit (a .marks) quantityBit && leb n (num a quantityBit))
     || (bit (a .marks) unitBit && leb n (num a unitBit))
     || (bit (a .marks) displayUnitBit && leb n (num a displayUnitBit))
 
+-- a text number that may be none is no text's
 unfoldable pub badOrNone : ℕ → ℕ → Bool
 badOrNone n t = leb n t && not (eqb t noText)
 
+-- a field has a text number in use that is no text's, and isn't an allowed none
 unfoldable pub badReference : ℕ → List ℕ → Field → Bool
 badReference n s f =
     (eqb (f .tag) blockTag && badOrNone n (blockAt s (f .at) .instanceIri))
@@ -109,27 +139,29 @@ badReference n s f =
     || (eqb (f .tag) boundaryOutputTag && leb n (boundaryOutputAt s (f .at) .iri))
     || onAttrs s (badTextNumbers n) (attrsOffset f)
 
+-- ---- the answer
+
 -- the field is at fault under refusal k, for k from 3 to 8
 unfoldable pub fault : ℕ → ℕ → List ℕ → Field → Bool
 fault k n s f =
     cond (eqb k 3) (badTag f) (cond (eqb k 4) (badLength s f) (cond (eqb k 5) (tooMany f)
     (cond (eqb k 6) (badContents s f) (cond (eqb k 7) (badText s f) (badReference n s f)))))
 
+-- refusal k at an offset, or else what comes behind it
 abbrev pub refusedAt : ℕ → Option ℕ → Option Refusal → Option Refusal
 refusedAt k none r = r
 refusedAt k (some at) r = some (record { number = k; offset = at })
 
--- the refusals from k on, j of them: 'the lowest number that applies anywhere, with the offset of the first field at fault'
+-- of the refusals from k on, j of them, the lowest that applies anywhere, with the offset of the first field at fault under it
 unfoldable pub refusalsFrom : ℕ → ℕ → List ℕ → List Field → Option Refusal
 refusalsFrom zero k s fs = none
 refusalsFrom (suc j) k s fs =
     let rest = refusalsFrom j (suc k) s fs in
     refusedAt k (first (fault k (length (ofTag textTag fs)) s) fs) rest
 
--- 1: 'The image is shorter than 23 or longer than 65,535 bytes' (offset 0)
--- 2: 'A field's three leading bytes or its contents run past the image's end'
+-- the lowest refusal that applies: 1, 2, or one of 3 to 8
 unfoldable pub refusal : List ℕ → Option Refusal
 refusal s =
     let rest = refusalsFrom 6 3 s (fields s) in
-    cond (ltb (length s) shortestImage || ltb longestImage (length s)) (some (record { number = 1; offset = 0 }))
-    (cond (ltb (stop s) (length s)) (some (record { number = 2; offset = stop s })) rest)
+    cond (badSize s) (some (record { number = 1; offset = 0 }))
+    (cond (runsPast s) (some (record { number = 2; offset = stop s })) rest)

@@ -23,26 +23,28 @@ pub struct BlockId(pub u32);
 
 pub struct ConnectorId(pub u32);
 
-// The Rust's `BlockInstance`: its id, its instance text, and how many inputs and outputs it has.
-pub struct Block {
+// What stands in front of a block's ports: its id, its instance text, and how many inputs and outputs it
+// has. The Rust's `BlockInstance` has the ports as well.
+pub struct BlockFront {
     pub id: BlockId,
     pub instance: usize,
     pub inputs: usize,
     pub outputs: usize,
 }
 
-// The Rust's `Connector`, less its attributes; kind and class are its `ValueType`.
-pub struct Connector {
+// What stands in front of a connector's attributes, the Rust's `Connector` without them; value_type and
+// class are its `ValueType`.
+pub struct ConnectorFront {
     pub id: ConnectorId,
     pub block: BlockId,
     pub dir: usize,
-    pub kind: usize,
+    pub value_type: usize,
     pub class: usize,
     pub iri: usize,
 }
 
-// The Rust's `BoundaryOutput`, less its attributes.
-pub struct BoundaryOutput {
+// What stands in front of a boundary output's attributes, the Rust's `BoundaryOutput` without them.
+pub struct BoundaryOutputFront {
     pub iri: usize,
     pub source: ConnectorId,
 }

@@ -9,7 +9,7 @@ use lib.ListN.{length, drop, length-append}
 use lib.Seq.{getD-append-add}
 use borrow.Author.Tests.{le-leb}
 use Rattle.base.specs.Buffers.{startsWith}
-use Rattle.numbers.specs.Bytes.{byte, le, le16, leBytes}
+use Rattle.numbers.specs.Bytes.{byte, leAt, le16, leBytes}
 use Rattle.numbers.proofs.Bytes.{le-append-right}
 use Rattle.oce_model.specs.Format.{fieldLengthAt}
 use Rattle.oce_model.specs.Image.{fieldEnd}
@@ -28,7 +28,7 @@ module _ (d : Diagnostic) (r : List ℕ) where
   tag-first = refl
 
   length-first : le16 (diagnosticBytes d ++ r) fieldLengthAt ≡ diagnosticLength
-  unfolding diagnosticBytes leBytes le
+  unfolding diagnosticBytes leBytes leAt
   length-first = refl
 
 -- the next begins behind the first

@@ -24,7 +24,7 @@ use Rattle.structural.specs.Degrees.{degree, external}
 use Rattle.structural.specs.Structural.{portFaults, blockFaults, connectorFaults, matches, outputFaults, assignmentFaults, inRange, sameType, connectionFaults, rule1, rule2, rule3, rule4}
 use Rattle.crossed_bounds.specs.Ranges.{rangeOf, crossed, combined}
 use Rattle.crossed_bounds.specs.Groups.{Group, members}
-use Rattle.crossed_bounds.specs.CrossedBounds.{crossedFaults, memberIri, memberExternal, memberKey, memberRanges, joins, groups, groupFaults, groupsFaults, rule5}
+use Rattle.crossed_bounds.specs.CrossedBounds.{crossedFaults, connectorCrossed, inputCrossed, outputCrossed, connectorMembers, inputMembers, memberIri, memberExternal, memberKey, memberRanges, joins, groups, groupFaults, groupsFaults, rule5}
 use Rattle.unify.specs.Slots.{Slots, slot, unifiedDetails, displayDetail}
 use Rattle.unify.specs.Clusters.{driven, isRoot}
 use Rattle.unify.specs.Unify.{declared, conflict, conflictCode, fillFaults, displayFaults, detailFaults, fills, clusterFaults, rootFaults, filledTo, filledSlots, rule6, propagatedFaults, propagated}
@@ -94,11 +94,11 @@ module _ (m : Model) (b : Bounded m) where
   output-fits i l =
       let o = boundaryOutput m i in
       let c = connector m (o .source) in
-      all-cond (isConnector m (o .source))
+      all-cond (not (isConnector m (o .source)))
+      (all-one (fits Error MalformedDocument 2 1 (Text (o .iri)) i (b .outputIri i) l))
       (all-both
       (all-only (isIn c) (fits Error DirectionMismatch 2 2 (Text (o .iri)) i (b .outputIri i) l))
       (all-only (not (matches o c)) (fits Error MalformedDocument 2 3 (Text (o .iri)) i (b .outputIri i) l)))
-      (all-one (fits Error MalformedDocument 2 1 (Text (o .iri)) i (b .outputIri i) l))
 
   rule2-fits : AllFitting (rule2 m)
   unfolding rule2
@@ -135,12 +135,12 @@ module _ (m : Model) (b : Bounded m) where
       let k = connection m i in
       let x = connector m (k .from) in
       let y = connector m (k .to) in
-      all-cond (inRange m k)
+      all-cond (not (inRange m k))
+      (all-one (fits Error MalformedDocument 4 1 Nothing i (omega arith) l))
       (all-both (all-both
       (all-only (isIn x) (fits Error DirectionMismatch 4 2 (subjectOf x) i (of-connector (k .from)) l))
       (all-only (not (isIn y)) (fits Error DirectionMismatch 4 3 (subjectOf y) i (of-connector (k .to)) l)))
       (all-only (not (sameType x y)) (fits Error TypeMismatch 4 4 (subjectOf y) i (of-connector (k .to)) l)))
-      (all-one (fits Error MalformedDocument 4 1 Nothing i (omega arith) l))
 
   rule4-fits : AllFitting (rule4 m)
   unfolding rule4
@@ -149,7 +149,7 @@ module _ (m : Model) (b : Bounded m) where
   -- ---- rule 5
   crossed-fits : (detail : ℕ) (x : Subject) (i : ℕ) (a : Attrs) → subjectNumber x < wordRange → i < wordRange → AllFitting (crossedFaults m detail x i a)
   unfolding crossedFaults
-  crossed-fits detail x i a n l = all-only (crossed (rangeOf m a)) (fits Error CrossedBounds 5 detail x i n l)
+  crossed-fits detail x i a n l = all-only (crossed (rangeOf (m .defaults) a)) (fits Error CrossedBounds 5 detail x i n l)
 
   iri-small : (x : ℕ) → memberIri m x < wordRange
   unfolding memberIri
@@ -180,8 +180,8 @@ module _ (m : Model) (b : Bounded m) where
   combined-fits : AllFitting (groupsFaults m (groups m))
   unfolding groups
   combined-fits =
-      let xs = each (connectorCount m) (λ i. only (joins (connector m i)) i) in
-      let ys = tab (boundaryInputCount m) (λ i. connectorCount m + i) in
+      let xs = connectorMembers m in
+      let ys = inputMembers m in
       let p : length xs ≤ 1 * connectorCount m = length-each (connectorCount m) 1 (λ i. only (joins (connector m i)) i) (λ i l. one (joins (connector m i)) i) in
       let q : length ys ≡ boundaryInputCount m = length-tab (boundaryInputCount m) (λ i. connectorCount m + i) in
       let r = b .members in
@@ -189,7 +189,7 @@ module _ (m : Model) (b : Bounded m) where
       groups-fit _ few (grouped (memberKey m) xs ys)
 
   rule5-fits : AllFitting (rule5 m)
-  unfolding rule5
+  unfolding rule5 connectorCrossed inputCrossed outputCrossed
   rule5-fits =
       let n = b .members in
       let k = b .boundaryOutputs in
@@ -224,7 +224,7 @@ module _ (m : Model) (b : Bounded m) where
 
   tested-fits : (σ : Slots) (r : ℕ) → r < wordRange → AllFitting (propagatedFaults m σ r)
   unfolding propagatedFaults
-  tested-fits σ r l = all-only (isRoot m r && crossed (rangeOf m (slot σ r))) (fits Error CrossedBounds 6 8 (subjectOf (connector m r)) r (of-connector r) l)
+  tested-fits σ r l = all-only (isRoot m r && crossed (rangeOf (m .defaults) (slot σ r))) (fits Error CrossedBounds 6 8 (subjectOf (connector m r)) r (of-connector r) l)
 
   propagated-fits : AllFitting (propagated m)
   unfolding propagated

@@ -14,7 +14,7 @@ use Rattle.structural_arena_ids.specs.PerRecord.{mostArenaFaults}
 use Rattle.structural_wiring.specs.PerRecord.{mostOutputFaults, mostConnectionFaults}
 use Rattle.structural_assignment.specs.PerRecord.{mostAssignmentFaults}
 use Rattle.crossed_bounds.specs.CrossedBounds.{rule5}
-use Rattle.crossed_records.specs.Details.{mostCrossed}
+use Rattle.crossed_records.specs.Most.{mostCrossed}
 use Rattle.unify.specs.Unify.{filledSlots}
 use Rattle.unify_slots.specs.Table.{slotCount, view, Room}
 use Rattle.unify_clusters.specs.Unified.{mostUnifiedFaults}

@@ -27,8 +27,8 @@ use Rattle.image_records.proofs.Laws.{port-is, blocks-counted, connectors-count
 use Rattle.oce_diag.proofs.Putting.{put-then, put-as}
 use Rattle.oce_model.specs.declared.BlockId.{BlockId}
 use Rattle.oce_model.specs.declared.ConnectorId.{ConnectorId}
-use Rattle.oce_model.specs.declared.Block.{Block as Read}
-use Rattle.oce_model.specs.declared.Connector.{Connector as ReadConnector}
+use Rattle.oce_model.specs.declared.BlockFront.{BlockFront}
+use Rattle.oce_model.specs.declared.ConnectorFront.{ConnectorFront}
 use Rattle.structural_arena_ids.specs.PerRecord.{portFault, idAndBlock}
 
 module _ {b b′ : List ℕ} {c c′ : Counted} where
@@ -53,13 +53,13 @@ ports-each m b detail s ids n =
 pub no-more : {a b n : ℕ} → a ≡ b → b ≤ n → a ≤ n
 no-more e h = rw e h
 
-subject-is : (k : Block) {r : Read} → r ≡ blockRead k → blockSubject (r .instance) (r .id) ≡ blockSubjectOf k
+subject-is : (k : Block) {r : BlockFront} → r ≡ blockRead k → blockSubject (r .instance) (r .id) ≡ blockSubjectOf k
 unfolding blockRead blockSubjectOf
-subject-is k e = ap (λ (y : Read). blockSubject (y .instance) (y .id)) e
+subject-is k e = ap (λ (y : BlockFront). blockSubject (y .instance) (y .id)) e
 
-id-is : (k : Block) {r : Read} → r ≡ blockRead k → r .id .0 ≡ k .id
+id-is : (k : Block) {r : BlockFront} → r ≡ blockRead k → r .id .0 ≡ k .id
 unfolding blockRead
-id-is k e = ap (λ (y : Read). y .id .0) e
+id-is k e = ap (λ (y : BlockFront). y .id .0) e
 
 both-ports : (m : Model) (s : List ℕ) (at n ins outs : ℕ) (subject : Subject) {b b′ : List ℕ} {c c′ : Counted}
     → Put b c (each ins (portFault n subject 2 s (at + blockPorts)) ++ each outs (portFault n subject 3 s (at + blockPorts + portLength * ins))) b′ c′
@@ -71,7 +71,7 @@ both-ports m s at n ins outs subject q en ei eo es =
 
 module _ {s : List ℕ} {l : Layout} (h : Laid s l) (i at : ℕ) (w : block (modelOf s) i ≡ blockAt s at) where
   -- a block
-  pub block-put : {b b′ b″ : List ℕ} {c c′ c″ : Counted} {r : Read} {subject : Subject} {x : Diagnostic}
+  pub block-put : {b b′ b″ : List ℕ} {c c′ c″ : Counted} {r : BlockFront} {subject : Subject} {x : Diagnostic}
       → r ≡ blockRead (blockAt s at) → r .inputs ≡ inputCountAt s at → r .outputs ≡ outputCountAt s at
       → subject ≡ blockSubject (r .instance) (r .id) → x ≡ error MalformedDocument 1 1 subject i
       → Put b c (only (not (eqb (r .id .0) i)) x) b′ c′
@@ -87,17 +87,17 @@ module _ {s : List ℕ} {l : Layout} (h : Laid s l) (i at : ℕ) (w : block (mod
       let q₁ : Put b′ c′ (portFaults m k 2 (k .inputs) ++ portFaults m k 3 (k .outputs)) b″ c″ = both-ports m s at (l .connectors .count) (r .inputs) (r .outputs) subject q (connectors-counted h) ei eo f in
       rw (w, append-assoc) (put-then p₁ q₁)
 
-connector-subject-is : (k : Connector) {r : ReadConnector} → r ≡ connectorRead k → connectorSubject (r .iri) (r .id) ≡ subjectOf k
+connector-subject-is : (k : Connector) {r : ConnectorFront} → r ≡ connectorRead k → connectorSubject (r .iri) (r .id) ≡ subjectOf k
 unfolding connectorRead subjectOf
-connector-subject-is k e = ap (λ (y : ReadConnector). connectorSubject (y .iri) (y .id)) e
+connector-subject-is k e = ap (λ (y : ConnectorFront). connectorSubject (y .iri) (y .id)) e
 
-connector-id-is : (k : Connector) {r : ReadConnector} → r ≡ connectorRead k → r .id .0 ≡ k .id
+connector-id-is : (k : Connector) {r : ConnectorFront} → r ≡ connectorRead k → r .id .0 ≡ k .id
 unfolding connectorRead
-connector-id-is k e = ap (λ (y : ReadConnector). y .id .0) e
+connector-id-is k e = ap (λ (y : ConnectorFront). y .id .0) e
 
-connector-block-is : (k : Connector) {r : ReadConnector} → r ≡ connectorRead k → r .block .0 ≡ k .block
+connector-block-is : (k : Connector) {r : ConnectorFront} → r ≡ connectorRead k → r .block .0 ≡ k .block
 unfolding connectorRead
-connector-block-is k e = ap (λ (y : ReadConnector). y .block .0) e
+connector-block-is k e = ap (λ (y : ConnectorFront). y .block .0) e
 
 -- two tests, one after the other
 pub two-put : (i id : ConnectorId) (block : BlockId) (n : ℕ) (subject : Subject) {b b′ b″ : List ℕ} {c c′ c″ : Counted} {x y : Diagnostic}
@@ -109,7 +109,7 @@ two-put i id block n subject p ex q ey = rw (← ex, ← ey) (put-then p q)
 
 module _ {s : List ℕ} {l : Layout} (h : Laid s l) (i : ConnectorId) where
   -- a connector
-  pub connector-put : {b b′ : List ℕ} {c c′ : Counted} {r : ReadConnector} {subject : Subject}
+  pub connector-put : {b b′ : List ℕ} {c c′ : Counted} {r : ConnectorFront} {subject : Subject}
       → r ≡ connectorRead (connector (modelOf s) (i .0)) → subject ≡ connectorSubject (r .iri) (r .id)
       → Put b c (idAndBlock i (r .id) (r .block) (l .blocks .count) subject) b′ c′
       → Put b c (connectorFaults (modelOf s) (i .0) (connector (modelOf s) (i .0))) b′ c′

@@ -23,12 +23,14 @@ idAndBlock i id block n subject =
     only (not (eqb (id .0) (i .0))) (error MalformedDocument 1 4 subject (i .0))
     ++ only (not (ltb (block .0) n)) (error MalformedDocument 1 5 subject (i .0))
 
--- the most that rule 1 reports of a block (its id, and each port), of a connector, and of a model
+-- the most that rule 1 reports of a block: its id, and each port
 abbrev pub mostBlockFaults : ℕ
 mostBlockFaults = 1 + 2 * mostPorts
 
+-- of a connector: its id and its block
 abbrev pub mostConnectorFaults : ℕ
 mostConnectorFaults = 2
 
+-- of a model
 abbrev pub mostArenaFaults : ℕ
 mostArenaFaults = mostBlockFaults * mostBlocks + mostConnectorFaults * mostConnectors

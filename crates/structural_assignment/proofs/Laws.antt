@@ -11,7 +11,7 @@ use borrow.Author.Tests.{lt-ltb, le-ltb, ltb-true, eq-eqb, ne-eqb}
 use Rattle.base.specs.Lists.{only}
 use Rattle.oce_model.specs.Format.{dirIn}
 use Rattle.oce_model.specs.Model.{Model, modelOf, connector, connectorCount, isConnector}
-use Rattle.oce_model.specs.declared.Connector.{Connector}
+use Rattle.oce_model.specs.declared.ConnectorFront.{ConnectorFront}
 use Rattle.oce_diag.specs.Diagnostics.{connectorSubject, error}
 use Rattle.oce_diag.specs.Putting.{Put, Emits}
 use Rattle.oce_diag.specs.declared.Counted.{Counted}
@@ -80,7 +80,7 @@ degree-found i id subject h g ed eo p = rw (← (ed ∙ entry-is h g id), ← eo
 
 -- ---- a connector
 
-module _ (m : Model) (i : ℕ) {r : Connector} (e : r ≡ connectorRead (connector m i)) where
+module _ (m : Model) (i : ℕ) {r : ConnectorFront} (e : r ≡ connectorRead (connector m i)) where
   -- one that is an output
   pub not-assigned : {b : List ℕ} {c : Counted} → r .dir ≢ dirIn → Put b c (assignmentFaults m i (connector m i)) b c
   unfolding assignmentFaults

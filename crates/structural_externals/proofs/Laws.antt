@@ -21,7 +21,7 @@ use Rattle.image_records.proofs.Laws.{externals-counted, externals-few}
 use Rattle.sorting.specs.Sort.{sorted, Ascending}
 use Rattle.sorting.proofs.Laws.{sorted-length, sorted-few}
 use Rattle.sorting.proofs.Sorted.{sorted-ascending, any-sorted}
-use Rattle.structural_externals.specs.Columns.{half, listedIds, othersCount, others, behind, Lists, Ordered, Listed}
+use Rattle.structural_externals.specs.Columns.{half, listedIds, othersCount, others, behind, Lists, OthersSorted, Listed}
 
 -- ---- one id more
 
@@ -117,7 +117,7 @@ module _ {s : List ℕ} {l : Layout} (h : Laid s l) where
       lists-miss b = rw q (appended (inside a) v e (rw q at b) (others-room a))
 
     -- all are listed, and the others sorted
-    pub lists-all : {xs′ : List ℕ} → k ≤ l .externals .count → l .externals .count ≤ k → Ordered n xs xs′ → Listed (modelOf s) xs′
+    pub lists-all : {xs′ : List ℕ} → k ≤ l .externals .count → l .externals .count ≤ k → OthersSorted n xs xs′ → Listed (modelOf s) xs′
     unfolding external
     lists-all {xs′} a b o =
         let ids = modelOf s .externalInputs in
@@ -135,7 +135,7 @@ module _ {s : List ℕ} {l : Layout} (h : Laid s l) where
 
 module _ (xs s : List ℕ) (n : ℕ) (few : n ≤ listedIds xs) (room : othersCount xs < length xs) where
   -- at most one is in order as it stands
-  noted-as : n ≤ 1 → Ordered n xs (set xs (othersCount xs) n)
+  noted-as : n ≤ 1 → OthersSorted n xs (set xs (othersCount xs) n)
   noted-as l = record {
     same = length-set xs (othersCount xs) n;
     each = λ i h. getD-set-other xs (othersCount xs) i n 0 (λ z. absurd (omega arith));
@@ -145,7 +145,7 @@ module _ (xs s : List ℕ) (n : ℕ) (few : n ≤ listedIds xs) (room : othersCo
         ap (take n) (drop-set-add (listedIds xs) xs (listedIds xs) n) ∙ take-set-le n (drop (listedIds xs) xs) (listedIds xs) n few ∙ sorted-few ltb (behind (listedIds xs) n xs) one);
   }
 
-  sorted-behind : s ≡ sorted ltb (behind (listedIds xs) n xs) → Ordered n xs (set (take (listedIds xs) xs ++ (s ++ drop n (drop (listedIds xs) xs))) (othersCount xs) n)
+  sorted-behind : s ≡ sorted ltb (behind (listedIds xs) n xs) → OthersSorted n xs (set (take (listedIds xs) xs ++ (s ++ drop n (drop (listedIds xs) xs))) (othersCount xs) n)
   sorted-behind e = record {
     same = length-set ys (othersCount xs) n ∙ long;
     each = λ i h.
@@ -172,10 +172,10 @@ module _ (xs s : List ℕ) (n : ℕ) (few : n ≤ listedIds xs) (room : othersCo
 
   -- the same, as the code has it with half of the column's length
   module _ (h : ℕ) (q : h ≡ listedIds xs) where
-    pub noted : n ≤ 1 → Ordered n xs (set xs (h + h) n)
+    pub noted : n ≤ 1 → OthersSorted n xs (set xs (h + h) n)
     noted l = rw q (noted-as l)
 
-    pub ordered : s ≡ sorted ltb (take (h + n - h) (drop h xs)) → Ordered n xs (set (take h xs ++ (s ++ drop (h + n - h) (drop h xs))) (h + h) n)
+    pub ordered : s ≡ sorted ltb (take (h + n - h) (drop h xs)) → OthersSorted n xs (set (take h xs ++ (s ++ drop (h + n - h) (drop h xs))) (h + h) n)
     ordered e = let z : h + n - h ≡ n = omega arith in rw (z, q) (sorted-behind (rw (z, q) at e))
 
 -- ---- an id looked up

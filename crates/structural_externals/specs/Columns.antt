@@ -39,7 +39,7 @@ pub record Lists (m : Model) (k n : ℕ) (xs : List ℕ) : Type 0 where
   pub rest : behind (listedIds xs) n xs ≡ others (listedIds xs) (take k (m .externalInputs))
 
 -- the n ids behind the entries sorted, and their number noted
-pub record Ordered (n : ℕ) (xs xs′ : List ℕ) : Type 0 where
+pub record OthersSorted (n : ℕ) (xs xs′ : List ℕ) : Type 0 where
   pub same : length xs′ ≡ length xs
   pub each : (i : ℕ) → i < listedIds xs → getD xs′ i 0 ≡ getD xs i 0
   pub count : getD xs′ (othersCount xs) 0 ≡ n

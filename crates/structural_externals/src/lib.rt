@@ -13,7 +13,7 @@ ghost use Rattle.oce_model.specs.Format.{mostExternalInputs};
 ghost use Rattle.oce_model.specs.Model.{modelOf};
 ghost use Rattle.structural.specs.Degrees.{external};
 ghost use Rattle.image_accept.specs.Layout.{Laid};
-ghost use Rattle.structural_externals.specs.Columns.{half, listedIds, othersCount, Lists, Ordered, Listed};
+ghost use Rattle.structural_externals.specs.Columns.{half, listedIds, othersCount, Lists, OthersSorted, Listed};
 
 // The entries of a column that serves every image.
 pub const EXTERNALS_COLUMN: usize = 2 * MOST_EXTERNAL_INPUTS + 1;
@@ -49,7 +49,7 @@ fn list_one(image: &[u8], layout: Layout, k: usize, n: usize, externals: &mut [u
 // Sorts the n others, and notes how many they are.
 fn sort_others(externals: &mut [u32], n: usize)
     requires { ⌜ (n ≤ mostExternalInputs) × (n ≤ listedIds (now externals)) × (othersCount (now externals) < length (now externals)) ⌝ }
-    ensures { λ _. ⌜ Ordered n (now (externals .entry)) (now (externals .exit)) ⌝ }
+    ensures { λ _. ⌜ OthersSorted n (now (externals .entry)) (now (externals .exit)) ⌝ }
 {
     let h = half(externals.len());
     if n <= 1 {

@@ -13,10 +13,10 @@ use Rattle.base.specs.Lists.{only}
 use Rattle.base.proofs.Lists.{and-parts}
 use Rattle.oce_model.specs.Format.{dirIn, mostBoundaryOutputs, mostConnections}
 use Rattle.oce_model.specs.Attributes.{attrsAt}
-use Rattle.oce_model.specs.Model.{BoundaryOutput as ModelOutput, Model, modelOf, connector, connection, boundaryOutput, connectorCount}
-use Rattle.oce_model.specs.declared.Connector.{Connector}
+use Rattle.oce_model.specs.Model.{BoundaryOutput, Model, modelOf, connector, connection, boundaryOutput, connectorCount}
+use Rattle.oce_model.specs.declared.ConnectorFront.{ConnectorFront}
 use Rattle.oce_model.specs.declared.Connection.{Connection}
-use Rattle.oce_model.specs.declared.BoundaryOutput.{BoundaryOutput}
+use Rattle.oce_model.specs.declared.BoundaryOutputFront.{BoundaryOutputFront}
 use Rattle.oce_diag.specs.Diagnostics.{connectorSubject, subjectOf, error}
 use Rattle.oce_diag.specs.Putting.{Put, Emits, total}
 use Rattle.oce_diag.specs.declared.Counted.{Counted}
@@ -31,37 +31,37 @@ use Rattle.image_accept.specs.declared.Layout.{Layout}
 use Rattle.image_records.specs.Records.{connectorRead, connectionRead, outputRead}
 use Rattle.image_records.proofs.Laws.{connectors-counted, connections-counted, outputs-counted, connections-few, boundary-outputs-few}
 use Rattle.structural_wiring.specs.PerRecord.{sourceFaults, within, endFaults, mostOutputFaults, mostConnectionFaults}
-use Rattle.structural_wiring.proofs.Reading.{dir-is, kind-is, class-is, subject-is}
+use Rattle.structural_wiring.proofs.Reading.{dir-is, type-is, class-is, subject-is}
 
 -- ---- rule 2
 
 -- two tests, one after the other
-pub source-tests : (i own dir kind : ℕ) (subject : Subject) {b b′ b″ : List ℕ} {c c′ c″ : Counted} {x y : Diagnostic}
+pub source-tests : (i own dir type : ℕ) (subject : Subject) {b b′ b″ : List ℕ} {c c′ c″ : Counted} {x y : Diagnostic}
     → Put b c (only (eqb dir dirIn) x) b′ c′ → x ≡ error DirectionMismatch 2 2 subject i
-    → Put b′ c′ (only (not (eqb own kind)) y) b″ c″ → y ≡ error MalformedDocument 2 3 subject i
-    → Put b c (sourceFaults i subject own dir kind) b″ c″
+    → Put b′ c′ (only (not (eqb own type)) y) b″ c″ → y ≡ error MalformedDocument 2 3 subject i
+    → Put b c (sourceFaults i subject own dir type) b″ c″
 unfolding sourceFaults
-source-tests i own dir kind subject p ex q ey = rw (← ex, ← ey) (put-then p q)
+source-tests i own dir type subject p ex q ey = rw (← ex, ← ey) (put-then p q)
 
--- the kinds and the direction, as they were read
-pub source-read : (s : List ℕ) (i j at : ℕ) (subject : Subject) {b b′ : List ℕ} {c c′ : Counted} {own : ℕ} {r : Connector}
+-- the kind, the direction and the type, as they were read
+pub source-read : (s : List ℕ) (i j at : ℕ) (subject : Subject) {b b′ : List ℕ} {c c′ : Counted} {own : ℕ} {r : ConnectorFront}
     → attrsAt s at ≡ boundaryOutput (modelOf s) i .attrs → own ≡ attrsAt s at .kind → r ≡ connectorRead (connector (modelOf s) j)
-    → Put b c (sourceFaults i subject own (r .dir) (r .kind)) b′ c′
+    → Put b c (sourceFaults i subject own (r .dir) (r .«value_type»)) b′ c′
     → Put b c (sourceFaults i subject (boundaryOutput (modelOf s) i .attrs .kind) (connector (modelOf s) j .dir) (connector (modelOf s) j .valueType)) b′ c′
 source-read s i j at subject ea eo e p =
     let k = connector (modelOf s) j in
-    rw (← (eo ∙ ap (λ a. a .kind) ea), ← (dir-is k e), ← (kind-is k e)) p
+    rw (← (eo ∙ ap (λ a. a .kind) ea), ← (dir-is k e), ← (type-is k e)) p
 
-module _ (k : ModelOutput) {o : BoundaryOutput} (e : o ≡ outputRead k) where
+module _ (k : BoundaryOutput) {o : BoundaryOutputFront} (e : o ≡ outputRead k) where
   iri-is : o .iri ≡ k .iri
   unfolding outputRead
-  iri-is = ap (λ (y : BoundaryOutput). y .iri) e
+  iri-is = ap (λ (y : BoundaryOutputFront). y .iri) e
 
   source-is : o .source .0 ≡ k .source
   unfolding outputRead
-  source-is = ap (λ (y : BoundaryOutput). y .source .0) e
+  source-is = ap (λ (y : BoundaryOutputFront). y .source .0) e
 
-module _ {s : List ℕ} {l : Layout} (h : Laid s l) (i : ℕ) {o : BoundaryOutput} (e : o ≡ outputRead (boundaryOutput (modelOf s) i)) {b b′ : List ℕ} {c c′ : Counted} where
+module _ {s : List ℕ} {l : Layout} (h : Laid s l) (i : ℕ) {o : BoundaryOutputFront} (e : o ≡ outputRead (boundaryOutput (modelOf s) i)) {b b′ : List ℕ} {c c′ : Counted} where
   -- a boundary output whose source is a connector
   pub output-inside : o .source .0 < l .connectors .count
       → Put b c (sourceFaults i (Text (o .iri)) (boundaryOutput (modelOf s) i .attrs .kind) (connector (modelOf s) (o .source .0) .dir) (connector (modelOf s) (o .source .0) .valueType)) b′ c′
@@ -103,16 +103,16 @@ unfolding endFaults
 end-tests k start end from to same p ex q ey r ez = rw (← ex, ← ey, ← ez) (put-then (put-then p q) r)
 
 -- subjects, directions and types, as they were read
-pub ends-read : (m : Model) (k i j : ℕ) {b b′ : List ℕ} {c c′ : Counted} {r t : Connector} {from to : Subject} {same : Bool}
+pub ends-read : (m : Model) (k i j : ℕ) {b b′ : List ℕ} {c c′ : Counted} {r t : ConnectorFront} {from to : Subject} {same : Bool}
     → r ≡ connectorRead (connector m i) → t ≡ connectorRead (connector m j)
     → from ≡ connectorSubject (r .iri) (r .id) → to ≡ connectorSubject (t .iri) (t .id)
-    → same ≡ (eqb (r .kind) (t .kind) && eqb (r .class) (t .class))
+    → same ≡ (eqb (r .«value_type») (t .«value_type») && eqb (r .class) (t .class))
     → Put b c (endFaults k from (r .dir) to (t .dir) same) b′ c′
     → Put b c (endFaults k (subjectOf (connector m i)) (connector m i .dir) (subjectOf (connector m j)) (connector m j .dir) (sameType (connector m i) (connector m j))) b′ c′
 ends-read m k i j e f es fs et p =
     let a = connector m i in
     let d = connector m j in
-    rw (← (es ∙ subject-is a e), ← (fs ∙ subject-is d f), ← (dir-is a e), ← (dir-is d f), ← (kind-is a e), ← (kind-is d f), ← (class-is a e), ← (class-is d f), ← et) p
+    rw (← (es ∙ subject-is a e), ← (fs ∙ subject-is d f), ← (dir-is a e), ← (dir-is d f), ← (type-is a e), ← (type-is d f), ← (class-is a e), ← (class-is d f), ← et) p
 
 module _ {s : List ℕ} {l : Layout} (h : Laid s l) (i : ℕ) {k : Connection} {t : Bool} (e : k ≡ connectionRead (connection (modelOf s) i)) (et : t ≡ within k (l .connectors .count)) where
   tested : inRange (modelOf s) (connection (modelOf s) i) ≡ t
@@ -152,7 +152,7 @@ module _ (k : Connection) (n : ℕ) where
     unfolding within
     to-within = ltb-true (k .to .0) n (and-parts (ltb (k .from .0) n) (ltb (k .to .0) n) (sym e ∙ q) .1)
 
--- a test of two types: by kind, then by class
+-- a test of two types: by number, then by class
 module _ (a b c d : ℕ) where
   pub equal-then : a ≡ b → eqb c d ≡ (eqb a b && eqb c d)
   equal-then e = rw (eq-eqb a b e)

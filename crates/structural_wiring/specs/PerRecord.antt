@@ -11,11 +11,11 @@ use Rattle.oce_diag.specs.declared.Diagnostic.{Diagnostic}
 use Rattle.oce_diag.specs.declared.Subject.{Subject}
 use Rattle.oce_diag.specs.declared.DiagCode.the-variants.{MalformedDocument, DirectionMismatch, TypeMismatch}
 
--- boundary output i, by its own kind and by the direction and kind of its source
+-- boundary output i, by its own kind and by the direction and type of its source
 unfoldable pub sourceFaults : ℕ → Subject → ℕ → ℕ → ℕ → List Diagnostic
-sourceFaults i subject own dir kind =
+sourceFaults i subject own dir type =
     only (eqb dir dirIn) (error DirectionMismatch 2 2 subject i)
-    ++ only (not (eqb own kind)) (error MalformedDocument 2 3 subject i)
+    ++ only (not (eqb own type)) (error MalformedDocument 2 3 subject i)
 
 -- both ends of a connection are among n connectors
 unfoldable pub within : Connection → ℕ → Bool
@@ -28,9 +28,10 @@ endFaults k from start to end same =
     ++ only (not (eqb end dirIn)) (error DirectionMismatch 4 3 to k)
     ++ only (not same) (error TypeMismatch 4 4 to k)
 
--- the most that rules 2 and 4 report of a boundary output and of a connection
+-- the most that rule 2 reports of a boundary output
 abbrev pub mostOutputFaults : ℕ
 mostOutputFaults = 2
 
+-- the most that rule 4 reports of a connection
 abbrev pub mostConnectionFaults : ℕ
 mostConnectionFaults = 3

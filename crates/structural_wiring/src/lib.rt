@@ -14,7 +14,7 @@ use oce_diag::put;
 use oce_diag::put_if;
 use oce_diag::subject_of;
 use oce_model::Connection;
-use oce_model::Connector;
+use oce_model::ConnectorFront;
 use oce_model::ConnectorId;
 use oce_model::DIR_IN;
 ghost use mathlib.Core.Path.{_≡_};
@@ -31,23 +31,23 @@ ghost use Rattle.structural_wiring.specs.PerRecord.{sourceFaults, within
 
 // ---- rule 2
 
-// What was read of boundary output i: its own kind, and the direction and kind of its source.
-fn direction_and_kind(
+// What was read of boundary output i: its own kind, and the direction and type of its source.
+fn direction_and_type(
     i: u32,
     subject: Subject,
     own: usize,
     dir: usize,
-    kind: usize,
+    value_type: usize,
     report: &mut [u8],
     counted: Counted,
 ) -> Counted
     requires { ⌜ Countable mostOutputFaults counted ⌝ }
-    ensures { λ r. ⌜ Put (now (report .entry)) counted (sourceFaults i subject own dir kind) (now (report .exit)) r × Adds mostOutputFaults counted r ⌝ }
+    ensures { λ r. ⌜ Put (now (report .entry)) counted (sourceFaults i subject own dir «value_type») (now (report .exit)) r × Adds mostOutputFaults counted r ⌝ }
 {
     let inwards = error(DiagCode::DirectionMismatch, 2, 2, subject, i);
     let before = put_if(report, counted, dir == DIR_IN, inwards);
     let other = error(DiagCode::MalformedDocument, 2, 3, subject, i);
-    put_if(report, before, own != kind, other)
+    put_if(report, before, own != value_type, other)
 }
 
 // Boundary output i, whose source is a connector.
@@ -66,7 +66,7 @@ fn source_faults(
     let at = boundary_output_attrs(image, layout, i);
     let own = attrs_kind(image, at);
     let c = connector(image, layout, source);
-    direction_and_kind(i as u32, subject, own, c.dir, c.kind, report, counted)
+    direction_and_type(i as u32, subject, own, c.dir, c.value_type, report, counted)
 }
 
 // What rule 2 reports of boundary output i.
@@ -124,10 +124,10 @@ fn in_range(c: Connection, n: usize) -> bool
 }
 
 // Two types are equal, the class of an enum included.
-fn same_type(a: Connector, b: Connector) -> bool
-    ensures { λ r. ⌜ r ≡ (eqb (a .kind) (b .kind) && eqb (a .class) (b .class)) ⌝ }
+fn same_type(a: ConnectorFront, b: ConnectorFront) -> bool
+    ensures { λ r. ⌜ r ≡ (eqb (a .«value_type») (b .«value_type») && eqb (a .class) (b .class)) ⌝ }
 {
-    if a.kind == b.kind {
+    if a.value_type == b.value_type {
         return a.class == b.class;
     }
     false

@@ -93,7 +93,7 @@ rule6 m = each (connectorCount m) (λ r. rootFaults m r (filledTo m r))
 
 -- ---- detail 8: 'every root is tested in turn: 8, its range is crossed (code 7)': `check_propagated_cluster`
 unfoldable pub propagatedFaults : Model → Slots → ℕ → List Diagnostic
-propagatedFaults m σ r = only (isRoot m r && crossed (rangeOf m (slot σ r))) (error CrossedBounds 6 8 (subjectOf (connector m r)) r)
+propagatedFaults m σ r = only (isRoot m r && crossed (rangeOf (m .defaults) (slot σ r))) (error CrossedBounds 6 8 (subjectOf (connector m r)) r)
 
 unfoldable pub propagated : Model → List Diagnostic
 propagated m = each (connectorCount m) (propagatedFaults m (filledSlots m))

@@ -11,7 +11,7 @@ use Rattle.base.specs.Lists.{steps}
 use Rattle.base.proofs.Lists.{steps-next}
 use Rattle.oce_model.specs.Format.{minBit}
 use Rattle.oce_model.specs.Model.{Model, modelOf, connector}
-use Rattle.oce_model.specs.declared.Connector.{Connector}
+use Rattle.oce_model.specs.declared.ConnectorFront.{ConnectorFront}
 use Rattle.image_accept.specs.declared.Layout.{Layout}
 use Rattle.image_records.specs.Records.{connectorRead}
 use Rattle.oce_diag.specs.Diagnostics.{connectorSubject, subjectOf, error, warning}
@@ -33,9 +33,9 @@ use Rattle.unify_cluster.specs.Clusters.{Unseen, Detailed, Details, Disp
 
 -- ---- diagnostics
 
-pub subject-is : (s : List ℕ) (r : ℕ) {c : Connector} {t : Subject} → c ≡ connectorRead (connector (modelOf s) r) → t ≡ connectorSubject (c .iri) (c .id) → t ≡ subjectOf (connector (modelOf s) r)
+pub subject-is : (s : List ℕ) (r : ℕ) {c : ConnectorFront} {t : Subject} → c ≡ connectorRead (connector (modelOf s) r) → t ≡ connectorSubject (c .iri) (c .id) → t ≡ subjectOf (connector (modelOf s) r)
 unfolding connectorRead subjectOf
-subject-is s r ec et = et ∙ ap (λ (c : Connector). connectorSubject (c .iri) (c .id)) ec
+subject-is s r ec et = et ∙ ap (λ (c : ConnectorFront). connectorSubject (c .iri) (c .id)) ec
 
 module _ (d : ℕ) {p : ℕ} (ep : p ≡ bitOf d) where
   pub code-text : p < minBit → UnitQuantityMismatch ≡ conflictCode d

@@ -14,11 +14,11 @@ use Rattle.base.specs.Lists.{each, only}
 use Rattle.base.proofs.Lists.{and-parts, each-next, each-add, each-same}
 use Rattle.oce_model.specs.Format.{dirIn}
 use Rattle.oce_model.specs.Attributes.{attrsAt}
-use Rattle.oce_model.specs.Model.{Connection as ModelConnection, BoundaryOutput as ModelBoundaryOutput, Model, modelOf, connector, connection, boundaryOutput, connectorCount, connectionCount, boundaryOutputCount, isConnector}
+use Rattle.oce_model.specs.Model.{Connection as ModelConnection, BoundaryOutput, Model, modelOf, connector, connection, boundaryOutput, connectorCount, connectionCount, boundaryOutputCount, isConnector}
 use Rattle.oce_model.specs.declared.Connection.{Connection}
 use Rattle.oce_model.specs.declared.ConnectorId.{ConnectorId}
-use Rattle.oce_model.specs.declared.Connector.{Connector}
-use Rattle.oce_model.specs.declared.BoundaryOutput.{BoundaryOutput}
+use Rattle.oce_model.specs.declared.ConnectorFront.{ConnectorFront}
+use Rattle.oce_model.specs.declared.BoundaryOutputFront.{BoundaryOutputFront}
 use Rattle.image_accept.specs.Layout.{Laid}
 use Rattle.image_accept.specs.declared.Layout.{Layout}
 use Rattle.image_records.specs.Records.{connectorRead, connectionRead, outputRead}
@@ -103,10 +103,10 @@ module _ {s : List ℕ} {l : Layout} (h : Laid s l) {ds : List ℕ} (g : Degrees
       let b′ : connection (modelOf s) k .to < connectorCount (modelOf s) = rw (connectors-counted h, same-to) at b in
       rw (lt-ltb _ _ a′, lt-ltb _ _ b′, ne-eqb _ _ (λ x. e (ap (λ (t : ℕ). getD ds t 0) same-to ∙ g .each _ b′ ∙ x)))
 
-module _ {s : List ℕ} {l : Layout} (h : Laid s l) (i : ℕ) {q : BoundaryOutput} (eq : q ≡ outputRead (boundaryOutput (modelOf s) i)) where
+module _ {s : List ℕ} {l : Layout} (h : Laid s l) (i : ℕ) {q : BoundaryOutputFront} (eq : q ≡ outputRead (boundaryOutput (modelOf s) i)) where
   same-source : q .source .0 ≡ boundaryOutput (modelOf s) i .source
   unfolding outputRead
-  same-source = ap (λ (o : BoundaryOutput). o .source .0) eq
+  same-source = ap (λ (o : BoundaryOutputFront). o .source .0) eq
 
   pub output-far : l .connectors .count ≤ q .source .0 → None ≡ outputRoot (modelOf s) (boundaryOutput (modelOf s) i)
   unfolding outputRoot sound
@@ -114,33 +114,33 @@ module _ {s : List ℕ} {l : Layout} (h : Laid s l) (i : ℕ) {q : BoundaryOutpu
       let a′ : connectorCount (modelOf s) ≤ boundaryOutput (modelOf s) i .source = rw (connectors-counted h, same-source) at a in
       rw (le-ltb _ _ a′)
 
-  module _ (a : q .source .0 < l .connectors .count) {c : Connector} (ec : c ≡ connectorRead (connector (modelOf s) (q .source .0))) where
+  module _ (a : q .source .0 < l .connectors .count) {c : ConnectorFront} (ec : c ≡ connectorRead (connector (modelOf s) (q .source .0))) where
     near : boundaryOutput (modelOf s) i .source < connectorCount (modelOf s)
     near = rw (connectors-counted h, same-source) at a
 
     same-dir : c .dir ≡ connector (modelOf s) (boundaryOutput (modelOf s) i .source) .dir
     unfolding connectorRead
-    same-dir = ap (λ (c : Connector). c .dir) ec ∙ ap (λ (x : ℕ). connector (modelOf s) x .dir) same-source
+    same-dir = ap (λ (c : ConnectorFront). c .dir) ec ∙ ap (λ (x : ℕ). connector (modelOf s) x .dir) same-source
 
-    same-kind : c .kind ≡ connector (modelOf s) (boundaryOutput (modelOf s) i .source) .valueType
+    same-type : c .«value_type» ≡ connector (modelOf s) (boundaryOutput (modelOf s) i .source) .valueType
     unfolding connectorRead
-    same-kind = ap (λ (c : Connector). c .kind) ec ∙ ap (λ (x : ℕ). connector (modelOf s) x .valueType) same-source
+    same-type = ap (λ (c : ConnectorFront). c .«value_type») ec ∙ ap (λ (x : ℕ). connector (modelOf s) x .valueType) same-source
 
     pub output-in : c .dir ≡ dirIn → None ≡ outputRoot (modelOf s) (boundaryOutput (modelOf s) i)
     unfolding outputRoot sound
     output-in e = rw (lt-ltb _ _ near, eq-eqb _ _ (sym same-dir ∙ e))
 
     module _ (at : ℕ) {k : ℕ} (d : c .dir ≡ dirIn → ⊥) (ea : attrsAt s at ≡ boundaryOutput (modelOf s) i .attrs) (ek : k ≡ attrsAt s at .kind) where
-      pub output-sound : k ≡ c .kind → Of (q .source) ≡ outputRoot (modelOf s) (boundaryOutput (modelOf s) i)
+      pub output-sound : k ≡ c .«value_type» → Of (q .source) ≡ outputRoot (modelOf s) (boundaryOutput (modelOf s) i)
       unfolding outputRoot sound outputRead
       output-sound e =
-          rw (lt-ltb _ _ near, ne-eqb _ _ (λ x. d (same-dir ∙ x)), eq-eqb _ _ (ap (λ a. a .kind) (sym ea) ∙ sym ek ∙ e ∙ same-kind))
-          (ap (λ (o : BoundaryOutput). Of (o .source)) eq)
+          rw (lt-ltb _ _ near, ne-eqb _ _ (λ x. d (same-dir ∙ x)), eq-eqb _ _ (ap (λ a. a .kind) (sym ea) ∙ sym ek ∙ e ∙ same-type))
+          (ap (λ (o : BoundaryOutputFront). Of (o .source)) eq)
 
-      pub output-other : (k ≡ c .kind → ⊥) → None ≡ outputRoot (modelOf s) (boundaryOutput (modelOf s) i)
+      pub output-other : (k ≡ c .«value_type» → ⊥) → None ≡ outputRoot (modelOf s) (boundaryOutput (modelOf s) i)
       unfolding outputRoot sound
       output-other e =
-          rw (lt-ltb _ _ near, ne-eqb _ _ (λ x. d (same-dir ∙ x)), ne-eqb _ _ (λ x. e (ek ∙ ap (λ a. a .kind) ea ∙ x ∙ sym same-kind)))
+          rw (lt-ltb _ _ near, ne-eqb _ _ (λ x. d (same-dir ∙ x)), ne-eqb _ _ (λ x. e (ek ∙ ap (λ a. a .kind) ea ∙ x ∙ sym same-type)))
 
 module _ {s : List ℕ} {l : Layout} (h : Laid s l) {k : ℕ} where
   pub root-connection : {r : Root} → k < l .connections .count → r ≡ connectionRoot (modelOf s) (connection (modelOf s) k) → r ≡ rootOf (modelOf s) k
@@ -307,7 +307,7 @@ connection-inside m c r e = arm (drives m c) refl e
         (omega (arith, there, same-root e), ltb-true (c .to) (connectorCount m) (both .1))
     arm false d e = absurd (no-root e)
 
-output-inside : (m : Model) (o : ModelBoundaryOutput) (r : ℕ) → outputRoot m o ≡ rootAt r → r < connectorCount m
+output-inside : (m : Model) (o : BoundaryOutput) (r : ℕ) → outputRoot m o ≡ rootAt r → r < connectorCount m
 unfolding outputRoot sound
 output-inside m o r e = arm (sound m o) refl e
   where

@@ -57,7 +57,7 @@ fn output_root(image: &[u8], layout: Layout, i: usize) -> Root
         return Root::None;
     }
     let at = boundary_output_attrs(image, layout, i);
-    if attrs_kind(image, at) == c.kind {
+    if attrs_kind(image, at) == c.value_type {
         return Root::Of(source);
     }
     Root::None

@@ -62,7 +62,7 @@ module _ {image : List ℕ} {layout : Layout} {head : List ℕ} {n : ℕ} {table
     unfolding propagatedFaults
     test-none l = record { put = rw (none-then l) put-none; few = omega arith }
 
-    module _ {x : Range} {t : Bool} (et : t ≡ crossed x) (ex : x ≡ rangeOf (modelOf image) (slot (view n table) r)) where
+    module _ {x : Range} {t : Bool} (et : t ≡ crossed x) (ex : x ≡ rangeOf (modelOf image .defaults) (slot (view n table) r)) where
       pub test-same : {b : List ℕ} {c : Counted} → getD head r 0 < layout .connections .count + layout .outputs .count → t ≡ false → Tested (modelOf image) r n table b c b c
       unfolding propagatedFaults
       test-same l e = record { put = rw (some-then l, ← ex, ← et, e) put-none; few = omega arith }

@@ -37,7 +37,7 @@ const CROSSED_DETAIL: u8 = 8;
 // The range of slot j, with the defaults of the image's head: the Rust's `Bounds::of`.
 fn slot_range(image: &[u8], layout: Layout, slots: usize, table: &[u64], j: usize) -> Range
     requires { ⌜ Laid (now image) layout × Room slots (now table) × (j < slots) ⌝ }
-    ensures { λ r. ⌜ r ≡ rangeOf (modelOf (now (image .entry))) (slot (view slots (now (table .entry))) j) ⌝ }
+    ensures { λ r. ⌜ r ≡ rangeOf (modelOf (now (image .entry)) .defaults) (slot (view slots (now (table .entry))) j) ⌝ }
 {
     let kind = kind_at(slots, table, j);
     if kind == REAL_KIND {

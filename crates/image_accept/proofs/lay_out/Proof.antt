@@ -10,7 +10,7 @@ use Rattle.numbers.specs.Bytes.{le64, signed64}
 use Rattle.oce_model.specs.Format.{textTag, blockTag}
 use Rattle.oce_model.specs.Model.{modelOf}
 use Rattle.image_accept.specs.Layout.{layoutOf}
-use Rattle.image_accept.specs.Sections.{Passed, fixedOf}
+use Rattle.image_accept.specs.Sections.{PassedSection, fixedOf}
 use Rattle.image_accept.specs.declared.Fixed.{Fixed}
 use Rattle.image_accept.specs.declared.Layout.{Layout}
 use Rattle.image_accept.specs.declared.Run.{Run}
@@ -19,7 +19,7 @@ use Rattle.image_accept.proofs.Runs.{begins-first}
 use Rattle.image_accept.proofs.lay_out.Statement.{statement}
 use Rattle.image_accept.proofs.lay_out.Tie as tie
 
-parts : {s : List ℕ} {a b : Run} {r : Fixed} {x y : ℕ} {lo hi : ℤ} → Passed textTag s a → Passed blockTag s b → r ≡ fixedOf s
+parts : {s : List ℕ} {a b : Run} {r : Fixed} {x y : ℕ} {lo hi : ℤ} → PassedSection textTag s a → PassedSection blockTag s b → r ≡ fixedOf s
     → x ≡ le64 s 7 → lo ≡ signed64 x → toZ w64 (ofZ w64 lo) ≡ lo → y ≡ le64 s 15 → hi ≡ signed64 y → toZ w64 (ofZ w64 hi) ≡ hi
     → _≡_ {A = Layout} (record {
       texts = a .records;

@@ -6,14 +6,14 @@ use lib.ListN.{length}
 use borrow.Author.Needs.{needs}
 use Rattle.oce_model.specs.Image.{fields, ofTag}
 use Rattle.image_accept.specs.Layout.{sectionOf}
-use Rattle.image_accept.specs.Sections.{Passed}
+use Rattle.image_accept.specs.Sections.{PassedSection}
 use Rattle.image_accept.specs.declared.Run.{Run}
 use Rattle.image_accept.specs.declared.Section.{Section}
 use Rattle.image_accept.proofs.Runs.{begins-first}
 use Rattle.image_accept.proofs.text_count.Statement.{statement}
 use Rattle.image_accept.proofs.text_count.Tie as tie
 
-counted : {t : ℕ} {s : List ℕ} {r : Run} → Passed t s r → r .records .count ≡ length (ofTag t (fields s))
+counted : {t : ℕ} {s : List ℕ} {r : Run} → PassedSection t s r → r .records .count ≡ length (ofTag t (fields s))
 unfolding sectionOf
 counted p = ap (λ (r : Section). r .count) (p .records)
 

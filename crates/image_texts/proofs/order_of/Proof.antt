@@ -8,7 +8,7 @@ use borrow.Author.Needs.{needs}
 use Rattle.oce_model.specs.Texts.{order}
 use Rattle.image_texts.specs.Passed.{Passed}
 use Rattle.oce_model.specs.declared.Ordering.the-variants.{Less, Equal, Greater}
-use Rattle.image_texts.proofs.Order.{rest-longer, rest-shorter, rest-done, rest-less, rest-greater, rest-more}
+use Rattle.image_texts.proofs.Bytewise.{rest-longer, rest-shorter, rest-done, rest-less, rest-greater, rest-more}
 use Rattle.image_texts.proofs.order_of.Statement.{statement}
 use Rattle.image_texts.proofs.order_of.Tie as tie
 

@@ -6,7 +6,8 @@ use borrow.Author.Needs.{needs}
 use Rattle.base.specs.Lists.{same}
 use Rattle.oce_model.specs.Texts.{order, isEqual}
 use Rattle.oce_model.specs.declared.Ordering.{Ordering}
-use Rattle.image_texts.proofs.Order.{same-length, equal-same}
+use Rattle.oce_model.proofs.Order.{equal-same}
+use Rattle.image_texts.proofs.Bytewise.{same-length}
 use Rattle.image_texts.proofs.same_bytes.Statement.{statement}
 use Rattle.image_texts.proofs.same_bytes.Tie as tie
 

@@ -5,7 +5,7 @@ use borrow.Author.Needs.{needs}
 use Rattle.oce_model.specs.Texts.{order}
 use Rattle.oce_model.specs.Model.{Model, text}
 use Rattle.oce_model.specs.declared.Ordering.the-variants.{Equal}
-use Rattle.image_texts.proofs.Order.{order-refl}
+use Rattle.oce_model.proofs.Order.{order-refl}
 use Rattle.image_texts.proofs.text_order.Statement.{statement}
 use Rattle.image_texts.proofs.text_order.Tie as tie
 
