@@ -22,7 +22,8 @@ use Rattle.oce_diag.proofs.Decoded.{report-back}
 use Rattle.outcome.specs.Answer.{reportOf, answer}
 use Rattle.outcome.specs.declared.Answer.{Answer}
 use Rattle.outcome.specs.declared.Answer.the-variants.{Refused, Checked}
-use Rattle.moved.specs.Moved.{Bytes, Moved}
+use Rattle.moved.specs.Moved.{Moved}
+use Rattle.moved.proofs.Bytes.{Bytes}
 use Rattle.moved.proofs.Moved.{checks}
 use Rattle.printed.proofs.Rules.{reportOf-fits}
 use Rattle.stored.specs.declared.Record.{Record}

@@ -15,7 +15,7 @@ use Rattle.oce_model.proofs.Fields.{nth}
 use Rattle.unify.specs.Slots.{slotsOf, kindOf, bitOf, put, putAt}
 use Rattle.unify.specs.Unify.{filledSlots}
 use Rattle.unify.proofs.Declared.{unmarked}
-use Rattle.moved.specs.Moved.{Bytes}
+use Rattle.moved.proofs.Bytes.{Bytes}
 use Rattle.moved.proofs.Invariants.{All, filledTo-keeps}
 use Rattle.moved.proofs.Kept.{bitOf-lt}
 use Rattle.moved.proofs.Widths.{all-slots}

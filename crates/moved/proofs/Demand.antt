@@ -1,4 +1,4 @@
--- Demand 3 over the definitions: its statement is Demand3 of specs/Moved, and this is its proof.
+-- Parts 3 to 7 of demand 3 over the definitions: of an accepted image without errors, and the model read again from the filled image. FORMAT 18.
 use Prim.Native.Nat.{ℕ, _+_, _^_, _≤_, _<_}
 use mathlib.Core.Path.{_≡_, refl, ap, _∙_}
 use mathlib.Core.Bool.{true, false, not, _&&_, _||_}
@@ -23,7 +23,8 @@ use Rattle.unify.specs.Unify.{filledSlots}
 use Rattle.outcome.specs.Answer.{reportOf}
 use Rattle.outcome.specs.Filled.{filledOf, withSlots}
 use Rattle.outcome.specs.Report.{finalSlots}
-use Rattle.moved.specs.Moved.{Bytes, Clean, FiniteEnds, Choice, Demand3, Kept, Same, alike, alikeUnits, chosen}
+use Rattle.moved.specs.Moved.{Choice, Kept, OfTypes, Same, Wired, alike, alikeUnits, chosen}
+use Rattle.moved.proofs.Bytes.{Bytes}
 use Rattle.base.proofs.Lists.{or-parts}
 use Rattle.oce_model.proofs.Accepted.{Accepted, accepted, connector-is, connectors-length}
 use Rattle.oce_model.proofs.Fields.{none-mem, nth, nth-mem, nth-tag}
@@ -133,28 +134,27 @@ again s bytes ok clean = rw (filled-is s clean) (record { same = same-model s t 
     six : (j : ℕ) → j < connectorSlots s + outputSlots s → length (slot σ j .nums) ≡ 6
     six = slots-numbers s (connectorCount (modelOf s))
 
--- Demand 3: for every accepted image whose report holds no error and in which every connector's attributes are of its value type's kind, all of `Wired` holds of the
--- image's model and the one read again from the filled image
-pub demand3 : Demand3
+-- of every accepted image whose report holds no error and in which every connector's attributes are of its type's kind
+pub wired : (s : List ℕ) → Bytes s → refusal s ≡ none → hasError (reportOf s) ≡ false → OfTypes (modelOf s) → Wired (modelOf s) (modelOf (filledOf s))
 unfolding reportOf
-demand3 s c = record {
+wired s bytes ok clean kinds = record {
   same = is .same;
   keptConnectors = kept-connectors m f is;
   keptInputs = λ i l. kept-ins m f is i;
   keptOutputs = kept-outs m f is;
   inputs = λ x choice i l n.
-      let p = input-gets m st qu (c .kinds) room x (chose x choice) i l n in
+      let p = input-gets m st qu kinds room x (chose x choice) i l n in
       record { value = p .0; one = p .1; typed = p .2; ranged = rw (range-at m f is i l) (p .3) };
   outputs = λ x choice i l.
-      let p = output-gets m st qu (c .kinds) room x (chose x choice) i l in
+      let p = output-gets m st qu kinds room x (chose x choice) i l in
       record { value = p .0; one = p .1; typed = p .2; ranged = rw (range-out m f is i l) (p .3) };
   unitsIn = λ k l.
       rw (is .connectors (connection m k .to) (to-lt m st k l), is .connectors (connection m k .from) (from-lt m st k l), units-same m f (is .same) (slot (filled m) (connection m k .to)) (slot (filled m) (connection m k .from)))
-      (wire-units m st qu (c .kinds) room plain k l);
+      (wire-units m st qu kinds room plain k l);
   unitsOut = λ i l.
       rw (is .outputs i l, is .connectors (boundaryOutput m i .source) (source-lt m st i l), units-same m f (is .same) (slot (filled m) (connectorCount m + i)) (slot (filled m) (boundaryOutput m i .source)))
-      (out-units m st qu (c .kinds) room plain i l);
-  exists = (x₀, λ i h. given x₀ i h (a-choice m st qu (c .kinds) room (types s acc) (low-end s) i h));
+      (out-units m st qu kinds room plain i l);
+  exists = (x₀, λ i h. given x₀ i h (a-choice m st qu kinds room (types s acc) (low-end s) i h));
 }
   where
     m : Model
@@ -164,16 +164,16 @@ demand3 s c = record {
     f = modelOf (filledOf s)
 
     is : Filled m f
-    is = again s (c .bytes) (c .accepted) (c .noError)
+    is = again s bytes ok clean
 
     acc : Accepted s
-    acc = accepted s (c .accepted)
+    acc = accepted s ok
 
     st : Stars m
-    st = stars m (c .noError)
+    st = stars m clean
 
     qu : Quiet m
-    qu = quiet m (c .noError)
+    qu = quiet m clean
 
     room : Roomy (slotsOf m)
     room = image-roomy s
@@ -181,15 +181,11 @@ demand3 s c = record {
     plain : (i : ℕ) → slot (filled m) i .kind ≢ realKind → (declaredAt (slot (filled m) i) quantityBit ≡ none) × (declaredAt (slot (filled m) i) unitBit ≡ none)
     plain i = well-plain (textCount s) (slot (filled m) i) (filled-well s acc (connectorCount m) .at i)
 
-    chose : (x : ℕ → Datum) → Choice m f x → (i : ℕ) → chosen m i ≡ true → Chosen m st qu (c .kinds) room x i
+    chose : (x : ℕ → Datum) → Choice m f x → (i : ℕ) → chosen m i ≡ true → Chosen m st qu kinds room x i
     chose x choice i h = let p = choice i h in record { typed = p .0; ranged = rw (range-at m f is i (chosen-lt m i h)) at (p .1) }
 
-    given : (x : ℕ → Datum) (i : ℕ) → chosen m i ≡ true → Chosen m st qu (c .kinds) room x i → (ofType (connector m i) (x i) ≡ true) × (inside (rangeOf (f .defaults) (connector f i .attrs)) (x i) ≡ true)
+    given : (x : ℕ → Datum) (i : ℕ) → chosen m i ≡ true → Chosen m st qu kinds room x i → (ofType (connector m i) (x i) ≡ true) × (inside (rangeOf (f .defaults) (connector f i .attrs)) (x i) ≡ true)
     given x i h p = (p .typed, rw (range-at m f is i (chosen-lt m i h)) (p .ranged))
 
     x₀ : ℕ → Datum
     x₀ = λ i. pick (connector m i .valueType) (connector m i .enumClass) (rangeOf (m .defaults) (slot (filled m) i))
-
--- The demand's last part as it is worded, where every Real end set in the image is finite: a choice of values exists. It needs no such premise
-pub exists-finite : (s : List ℕ) → Clean s → FiniteEnds (modelOf s) → (x : ℕ → Datum) × Choice (modelOf s) (modelOf (filledOf s)) x
-exists-finite s c h = demand3 s c .exists

@@ -16,7 +16,7 @@ use Rattle.unify.specs.Unify.{filledTo, filledSlots}
 use Rattle.outcome.specs.Report.{report, finalSlots}
 use Rattle.outcome.specs.Filled.{withSlots, filledOf}
 use Rattle.outcome.specs.Answer.{reportOf}
-use Rattle.moved.specs.Moved.{Bytes, Same}
+use Rattle.moved.proofs.Bytes.{Bytes}
 use Rattle.oce_model.proofs.Accepted.{Accepted, accepted, connectors-length, outputs-length}
 use Rattle.unify.proofs.Fixed.{filledTo-fixed, put-room}
 use Rattle.moved.proofs.Widths.{AllCaps, image-caps, filledTo-caps, six-numbers}

@@ -1,4 +1,6 @@
--- Demand 3, in steps. Each file takes what the ones before it give; Demand has the theorem, Moved what follows for the two buffers of a checking call.
+-- Demand 3, in steps. Each file takes what the ones before it give; Demand has parts 3 to 7 over the definitions, Moved the demand of the two buffers of a checking call.
+-- what is taken of every image
+pub mod Bytes
 -- what no error says of the model, and that its clusters share no slot
 pub mod NoError
 pub mod Stars
@@ -22,8 +24,8 @@ pub mod Refilled
 pub mod AcceptedAgain
 pub mod Undone
 pub mod FilledImage
--- the theorem, of models and of buffers
+-- the demand, of models and of buffers
 pub mod Demand
 pub mod Moved
--- a model that meets its premises, and one that shows that the premise on kinds is needed
+-- a model that meets its premises, what its definitions say no to, and a model that shows that the premise on kinds is needed
 pub mod Witness

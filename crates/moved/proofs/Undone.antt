@@ -13,7 +13,7 @@ use Rattle.unify.specs.Slots.{slot, slotsOf}
 use Rattle.outcome.specs.Answer.{reportOf}
 use Rattle.outcome.specs.Filled.{filledOf, withSlots}
 use Rattle.outcome.specs.Report.{finalSlots}
-use Rattle.moved.specs.Moved.{Bytes}
+use Rattle.moved.proofs.Bytes.{Bytes}
 use Rattle.base.proofs.Patches.{patched-own}
 use Rattle.oce_model.proofs.Accepted.{Accepted, connector-is, connectors-length, output-is, outputs-length}
 use Rattle.oce_model.proofs.Attributes.{attrs-own}

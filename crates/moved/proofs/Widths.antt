@@ -15,7 +15,7 @@ use Rattle.oce_model.specs.Attributes.{Attrs, attrsAt, declareAt, declaredAt, m
 use Rattle.oce_model.specs.Model.{BoundaryOutput, Connector, Model, boundaryOutput, boundaryOutputAt, boundaryOutputCount, connector, connectorAt, connectorCount, modelOf, noBoundaryOutput, noConnector}
 use Rattle.unify.specs.Slots.{Slots, bitOf, kindOf, put, putAt, slot, slotsOf, value}
 use Rattle.unify.specs.Unify.{filledTo}
-use Rattle.moved.specs.Moved.{Bytes}
+use Rattle.moved.proofs.Bytes.{Bytes}
 use Rattle.oce_model.proofs.Accepted.{connector-is, output-is}
 use Rattle.oce_model.proofs.Attributes.{Caps, at-caps, cap, no-caps}
 use Rattle.oce_model.proofs.Fields.{nth}

@@ -1,40 +1,58 @@
--- Two images for demand 3: one that meets all its premises, and one that shows why attributes must be of their type's kind.
+-- Two images for demand 3, FORMAT 18: one that meets all its premises, and one that shows why attributes must be of their type's kind.
 use Prim.Native.Nat.{ℕ}
 use mathlib.Core.List.{List, [], _∷_, _++_}
-use Rattle.numbers.specs.Bytes.{leBytes}
-use Rattle.oce_model.specs.Format.{connectorTag, realKind, dirIn, noText, unitBit, minBit, maxBit}
-use Rattle.oce_model.specs.Attributes.{Attrs, attrsBytes}
-use Rattle.oce_model.specs.Build.{field, head, _is_, real, integer, block, output, input, connection, boundaryOutput}
-use Rattle.oce_model.specs.Examples.{units, kelvin, zero+, ten, written}
+use Rattle.oce_model.specs.Format.{realKind, stringKind, enumKind, dirIn, dirOut, noText, unitBit, minBit, maxBit}
+use Rattle.oce_model.specs.Attributes.{Attrs}
+use Rattle.oce_model.specs.Build.{_is_, attributes, realWith, integerWith, headField, textField, blockField, connectorFieldOf, outField, inField, connectionField, externalInputField, boundaryOutputField}
+use Rattle.oce_model.specs.Examples.{textK, units, kelvin, zero+, ten, computedExamples}
 
--- Out 0 drives In 1 and In 2 and is the source of a boundary output; the four slots have these attributes
-unfoldable pub star : Attrs → Attrs → Attrs → Attrs → List ℕ
-star a b c d =
-    head ++ units ++ block 0 (1 ∷ 2 ∷ []) (0 ∷ []) ++ output 0 a ++ input 1 b ++ input 2 c
-    ++ connection 0 1 ++ connection 0 2 ++ boundaryOutput 1 0 d
+-- K once more, as text 2
+abbrev pub kelvinAgain : ℕ
+kelvinAgain = 2
 
--- the Out has the unit K and the min 0.0, one In the max 10.0
-unfoldable pub image : List ℕ
-image = star (real (unitBit is kelvin ∷ minBit is zero+ ∷ [])) (real (maxBit is ten ∷ [])) (real []) (real [])
+-- an Enum class
+abbrev pub season : ℕ
+season = 7
 
--- filled, all have all three
-unfoldable pub full : Attrs
-full = real (unitBit is kelvin ∷ minBit is zero+ ∷ maxBit is ten ∷ [])
+-- Root 0, a Real Out, drives In 1 and In 2 and is the source of a boundary output. Root 3, an Integer Out, drives In 4 and is the source of a boundary output.
+-- Root 5, an Enum Out, drives In 6. In 7, a String, is external and has no connection. a to g are the attributes of the Real and the Integer slots
+unfoldable pub wires : Attrs → Attrs → Attrs → Attrs → Attrs → Attrs → Attrs → List ℕ
+wires a b c d e f g =
+    headField ++ units ++ textField textK ++ blockField 0 (1 ∷ 2 ∷ 4 ∷ 6 ∷ 7 ∷ []) (0 ∷ 3 ∷ 5 ∷ [])
+    ++ outField 0 a ++ inField 1 b ++ inField 2 c ++ outField 3 d ++ inField 4 e
+    ++ connectorFieldOf enumKind season dirOut 5 noText (attributes enumKind []) ++ connectorFieldOf enumKind season dirIn 6 noText (attributes enumKind [])
+    ++ inField 7 (attributes stringKind [])
+    ++ connectionField 0 1 ++ connectionField 0 2 ++ connectionField 3 4 ++ connectionField 5 6 ++ externalInputField 7
+    ++ boundaryOutputField 1 0 f ++ boundaryOutputField 1 3 g
 
-unfoldable pub filledImage : List ℕ
-filledImage = star full full full full
+-- the Real Out has the unit K and the min 0.0, one In the max 10.0, the other K by another number; the Integer Out has the min 3, its boundary output the max 7
+unfoldable pub witnessImage : List ℕ
+witnessImage =
+    wires (realWith (unitBit is kelvin ∷ minBit is zero+ ∷ [])) (realWith (maxBit is ten ∷ [])) (realWith (unitBit is kelvinAgain ∷ []))
+    (integerWith (minBit is 3 ∷ [])) (integerWith []) (realWith []) (integerWith (maxBit is 7 ∷ []))
+
+-- filled, all of a cluster have what one of them has
+unfoldable pub filledReal : ℕ → Attrs
+filledReal unit = realWith (unitBit is unit ∷ minBit is zero+ ∷ maxBit is ten ∷ [])
+
+unfoldable pub filledInteger : Attrs
+filledInteger = integerWith (minBit is 3 ∷ maxBit is 7 ∷ [])
+
+unfoldable pub witnessFilled : List ℕ
+witnessFilled =
+    wires (filledReal kelvin) (filledReal kelvin) (filledReal kelvinAgain) filledInteger filledInteger (filledReal kelvin) filledInteger
 
 -- an In of type Real, whatever the kind of its attributes
-unfoldable pub realInput : ℕ → Attrs → List ℕ
-realInput id a = field connectorTag (leBytes 4 id ++ leBytes 4 0 ++ dirIn ∷ realKind ∷ leBytes 4 0 ++ leBytes 2 noText ++ attrsBytes a)
+abbrev realIn : ℕ → Attrs → List ℕ
+realIn id a = connectorFieldOf realKind 0 dirIn id noText a
 
 -- two Ins of type Real with Integer ends, one with the min 5 and one with the max 3: unified apart from the Out, they end with a range from 5 to 3 that no rule reports
 unfoldable pub unlike : List ℕ
 unlike =
-    head ++ block 0 (1 ∷ 2 ∷ []) (0 ∷ []) ++ output 0 (real []) ++ realInput 1 (integer (minBit is 5 ∷ [])) ++ realInput 2 (integer (maxBit is 3 ∷ []))
-    ++ connection 0 1 ++ connection 0 2
+    headField ++ blockField 0 (1 ∷ 2 ∷ []) (0 ∷ []) ++ outField 0 (realWith []) ++ realIn 1 (integerWith (minBit is 5 ∷ [])) ++ realIn 2 (integerWith (maxBit is 3 ∷ []))
+    ++ connectionField 0 1 ++ connectionField 0 2
 
--- both, opened: a claim that is `unfolding witnessed` computes
-unfoldable pub witnessed : ℕ
-unfolding written star image full filledImage realInput unlike
-witnessed = 0
+-- all of these, opened: a claim that is `unfolding computedWitness` computes
+unfoldable pub computedWitness : ℕ
+unfolding computedExamples wires witnessImage filledReal filledInteger witnessFilled unlike
+computedWitness = 0

@@ -2,3 +2,4 @@ pub mod Diagnostics
 pub mod Encoding
 pub mod Putting
 pub mod Decoded
+pub mod Examples

@@ -34,7 +34,7 @@ use Rattle.outcome.specs.Report.{finalSlots}
 use Rattle.outcome.specs.Answer.{reportOf, reportSize, answerFor, answer, filledAfter, reportAfter}
 use Rattle.outcome.specs.declared.Answer.the-variants.{Refused, Checked}
 use Rattle.rules.specs.Ran.{Ready, Ran}
-use Rattle.moved.specs.Moved.{Bytes}
+use Rattle.moved.proofs.Bytes.{Bytes}
 use Rattle.moved.proofs.FilledImage.{filled-undone}
 use Rattle.filling.specs.Small.{Small}
 use Rattle.filling.proofs.Small.{filled-small}

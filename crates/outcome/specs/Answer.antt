@@ -1,4 +1,4 @@
--- The answer of a checking call, and what it leaves in its two buffers.
+-- The answer of a checking call, and what it leaves in its two buffers. FORMAT 1 and 6.
 use Prim.Native.Nat.{ℕ, _*_}
 use mathlib.Core.Bool.{cond}
 use mathlib.Core.List.{List, [], _∷_}
@@ -20,34 +20,36 @@ use Rattle.outcome.specs.declared.Answer.the-variants.{Refused, Checked}
 unfoldable pub reportOf : List ℕ → List Diagnostic
 reportOf s = report (modelOf s)
 
--- the bytes that a report needs: '19 times the number of diagnostics'
+-- the bytes that a report needs
 abbrev pub reportSize : List Diagnostic → ℕ
 reportSize ds = diagnosticSize * length ds
 
--- '9. The filled buffer is shorter than the image. 10. The report buffer is shorter than 19 times the number of diagnostics. Otherwise the answer is the number
--- of errors and of warnings'; filled and room are the two buffers' lengths
+-- The answer where refusals 1 to 8 give the last argument: the first of them; else 9, with the bytes needed, if the filled buffer is shorter than the image; else 10,
+-- likewise, if the report buffer is shorter than the report; else the report's errors and warnings. The two numbers are the buffers' lengths. FORMAT 6
 abbrev pub answerFor : List ℕ → ℕ → ℕ → Option Refusal → Answer
-answerFor s filled room (some r) = Refused (r .number) (r .offset)
-answerFor s filled room none =
+answerFor s filledRoom reportRoom (some r) = Refused (r .number) (r .offset)
+answerFor s filledRoom reportRoom none =
     let ds = reportOf s in
-    cond (ltb filled (length s)) (Refused 9 (length s))
-    (cond (ltb room (reportSize ds)) (Refused 10 (reportSize ds))
+    cond (ltb filledRoom (length s)) (Refused 9 (length s))
+    (cond (ltb reportRoom (reportSize ds)) (Refused 10 (reportSize ds))
     (Checked (errors ds) (warnings ds)))
 
 unfoldable pub answer : List ℕ → ℕ → ℕ → Answer
-answer s filled room = answerFor s filled room (refusal s)
+answer s filledRoom reportRoom = answerFor s filledRoom reportRoom (refusal s)
 
--- Document 01's number and values for each case of the answer: a refusal's number and offset; 0, no refusal, then errors and warnings
+-- an answer as numbers: a refusal's number and offset; 0, no refusal, then errors and warnings
 abbrev pub numbersOf : Answer → List ℕ
 numbersOf (Refused number at) = number ∷ at ∷ []
 numbersOf (Checked e w) = 0 ∷ e ∷ w ∷ []
 
--- 'Both buffers keep their bytes' under a refusal; otherwise 'the filled buffer starts with the image, attributes filled; the report buffer starts with the diagnostics;
--- bytes behind both are untouched'
+-- ---- the two buffers after a call, FORMAT 1: s is the image, f and r are the filled buffer and the report buffer before it
+
+-- under a refusal a buffer holds what it held
 abbrev pub ifChecked : Answer → List ℕ → List ℕ → List ℕ
 ifChecked (Refused number at) new old = old
 ifChecked (Checked e w) new old = new
 
+-- otherwise it starts with the filled image, with the diagnostics, and bytes behind are untouched
 unfoldable pub filledAfter : List ℕ → List ℕ → List ℕ → List ℕ
 filledAfter s f r = ifChecked (answer s (length f) (length r)) (startsWith (filledOf s) f) f
 

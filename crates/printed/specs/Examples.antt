@@ -1,12 +1,12 @@
--- What the program prints for the image of 78 bytes, and for a refusal.
+-- What the program prints for the image of 78 bytes, and for a refusal. FORMAT 19.
 use Prim.Native.Nat.{ℕ}
 use mathlib.Core.List.{List, [], _∷_}
 
--- the program 'lends 65,535 bytes for each buffer'
+-- the program lends as many bytes for each buffer
 abbrev pub lent : ℕ
 lent = 65535
 
--- document 01's three lines
+-- its three lines
 unfoldable pub printed78 : List ℕ
 printed78 =
     -- `errors 2 warnings 0`

@@ -1,4 +1,4 @@
--- Subjects of the image of 78 bytes, and the texts that they shall have.
+-- Subjects of the image of 78 bytes, and the texts that they shall have. FORMAT 8.
 use Prim.Native.Nat.{ℕ}
 use mathlib.Core.List.{List, [], _∷_}
 use lib.ListN.{length}
@@ -31,8 +31,9 @@ cases =
     ∷ case 4 0 []
     ∷ []
 
-abbrev pub textOf : Case → List ℕ
-textOf c = subjectText image78 (c .kind) (c .number)
+-- the text that a case has by the definitions, and the one that it shall have
+abbrev pub found : Case → List ℕ
+found c = subjectText image78 (c .kind) (c .number)
 
 abbrev pub wanted : Case → List ℕ
 wanted c = c .text

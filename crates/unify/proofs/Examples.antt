@@ -1,10 +1,10 @@
--- What rule 6 reports of the models, in their order: details 1 to 7, and what detail 8 would report if it were asked.
+-- What rule 6 reports of the models, in their order: details 1 to 7, and what detail 8 would report if it were asked. FORMAT 16.
 use Prim.Native.Nat.{ℕ}
 use mathlib.Core.Path.{_≡_, refl}
 use mathlib.Core.List.{List, [], _∷_, map}
 use lib.Ieee.{ofBits, lt, eq}
 use Rattle.oce_model.specs.Model.{modelOf}
-use Rattle.oce_model.specs.Examples.{models, written}
+use Rattle.oce_model.specs.Examples.{models, computedExamples}
 use Rattle.oce_diag.specs.Diagnostics.{connectorId, error, warning}
 use Rattle.oce_diag.specs.declared.Diagnostic.{Diagnostic}
 use Rattle.oce_diag.specs.declared.Subject.the-variants.{Connector}
@@ -15,7 +15,7 @@ use Rattle.unify.specs.Computed.{computed}
 abbrev reported : List ℕ → List Diagnostic
 reported s = rule6 (modelOf s)
 
--- c and n: K and degC; d: two zeros; m: display units; p: a filled K and degC
+-- c and n: K and degC; d: two zeros; m: display units; p: a filled K and degC; v: quantity and max of a Real root, both ends of an Integer one
 pub unify : map reported models
     ≡ [] ∷ []
     ∷ (error UnitQuantityMismatch 6 1 (Connector (connectorId 0)) 0 ∷ [])
@@ -25,16 +25,21 @@ pub unify : map reported models
     ∷ (error UnitQuantityMismatch 6 1 (Connector (connectorId 2)) 2 ∷ [])
     ∷ []
     ∷ (error UnitQuantityMismatch 6 1 (Connector (connectorId 1)) 1 ∷ [])
-    ∷ [] ∷ [] ∷ []
-unfolding computed written ofBits lt eq
+    ∷ [] ∷ [] ∷ [] ∷ [] ∷ [] ∷ []
+    ∷ (error UnitQuantityMismatch 6 2 (Connector (connectorId 0)) 0 ∷ error BoundMismatch 6 4 (Connector (connectorId 0)) 0
+    ∷ error BoundMismatch 6 5 (Connector (connectorId 2)) 2 ∷ error BoundMismatch 6 6 (Connector (connectorId 2)) 2 ∷ [])
+    ∷ [] ∷ []
+unfolding computed computedExamples ofBits lt eq
 unify = refl
 
--- f and n: a min of 5 beside a max of 3
+-- f, n and u: a min of 5 beside a max of 3
 pub propagation : map (λ s. propagated (modelOf s)) models
     ≡ [] ∷ [] ∷ [] ∷ [] ∷ []
     ∷ (error CrossedBounds 6 8 (Connector (connectorId 0)) 0 ∷ [])
     ∷ [] ∷ [] ∷ [] ∷ [] ∷ [] ∷ [] ∷ []
     ∷ (error CrossedBounds 6 8 (Connector (connectorId 0)) 0 ∷ [])
-    ∷ [] ∷ [] ∷ [] ∷ [] ∷ []
-unfolding computed written ofBits lt eq
+    ∷ [] ∷ [] ∷ [] ∷ [] ∷ [] ∷ [] ∷ []
+    ∷ (error CrossedBounds 6 8 (Connector (connectorId 0)) 0 ∷ [])
+    ∷ [] ∷ [] ∷ []
+unfolding computed computedExamples ofBits lt eq
 propagation = refl
