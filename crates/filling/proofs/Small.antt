@@ -12,12 +12,14 @@ use Rattle.oce_model.specs.Format.{connectorAttrs, connectorTag, boundaryOutput
 use Rattle.oce_model.specs.Attributes.{Attrs, noAttrs, attrsAt, declareAt, declaredAt}
 use Rattle.oce_model.specs.Model.{connectorAt, boundaryOutputAt, connectorCount, modelOf}
 use Rattle.oce_model.proofs.Fields.{nth}
-use Rattle.unify.specs.Slots.{slotsOf, kindOf, bitOf, put, putAt}
+use Rattle.unify.specs.Details.{kindOf, bitOf}
+use Rattle.unify.specs.Slots.{slotsOf, put, putAt}
 use Rattle.unify.specs.Unify.{filledSlots}
+use Rattle.unify.specs.declared.Detail.{Detail}
+use Rattle.unify.proofs.Details.{bitOf-lt}
 use Rattle.unify.proofs.Declared.{unmarked}
 use Rattle.moved.proofs.Bytes.{Bytes}
 use Rattle.moved.proofs.Invariants.{All, filledTo-keeps}
-use Rattle.moved.proofs.Kept.{bitOf-lt}
 use Rattle.moved.proofs.Widths.{all-slots}
 use Rattle.filling.specs.Small.{Small}
 
@@ -25,7 +27,7 @@ record Lead (a : Attrs) : Type 0 where
   kind : a .kind < byteRange
   marks : a .marks < byteRange
 
-put-lead : (d v : ℕ) (a : Attrs) → v ≡ v → Lead a → Lead (put d v a)
+put-lead : (d : Detail) (v : ℕ) (a : Attrs) → v ≡ v → Lead a → Lead (put d v a)
 unfolding put declareAt
 put-lead d v a ok c = arm (eqb (a .kind) (kindOf d)) (declaredAt a (bitOf d)) refl
   where

@@ -1,4 +1,4 @@
--- The bytes of attributes in three parts, as they are written one behind the other.
+-- The bytes of attributes (FORMAT 4) in three parts, as they are written one behind the other.
 use Prim.Native.Nat.{ℕ}
 use mathlib.Core.List.{List, [], _∷_, _++_}
 use Rattle.numbers.specs.Bytes.{leBytes}

@@ -1,4 +1,4 @@
--- What is asked of slots that are written into an image.
+-- What is asked of slots that are written into an image (FORMAT 17).
 use Prim.Native.Nat.{ℕ, _<_}
 use Rattle.numbers.specs.Bytes.{byteRange}
 use Rattle.unify.specs.Slots.{Slots, slot}

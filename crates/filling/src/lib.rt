@@ -1,4 +1,4 @@
-// The filled image: the attributes of slots that stand in a table, written over those of the image.
+// The filled image (FORMAT 17): the attributes of slots that stand in a table, written over those of the image.
 use base::copy_at;
 use image_accept::Layout;
 use image_accept::Section;

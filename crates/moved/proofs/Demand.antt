@@ -20,6 +20,7 @@ use Rattle.crossed_bounds.specs.Ranges.{rangeOf}
 use Rattle.crossed_bounds.specs.Values.{Datum, inside, ofType}
 use Rattle.unify.specs.Slots.{Slots, slot, slotsOf}
 use Rattle.unify.specs.Unify.{filledSlots}
+use Rattle.unify.proofs.Slots.{slot-connector, slot-out}
 use Rattle.outcome.specs.Answer.{reportOf}
 use Rattle.outcome.specs.Filled.{filledOf, withSlots}
 use Rattle.outcome.specs.Report.{finalSlots}
@@ -30,23 +31,23 @@ use Rattle.oce_model.proofs.Accepted.{Accepted, accepted, connector-is, connect
 use Rattle.oce_model.proofs.Fields.{none-mem, nth, nth-mem, nth-tag}
 use Rattle.moved.proofs.Clusters.{from-lt, source-lt, to-lt}
 use Rattle.moved.proofs.FilledImage.{slots-caps, slots-numbers}
-use Rattle.moved.proofs.Flow.{Chosen, a-choice, chosen-lt, filled, input-gets, out-units, output-gets, wire-units}
-use Rattle.moved.proofs.Kept.{Kept·refl, filledTo-later}
+use Rattle.moved.proofs.Flow.{Chosen, a-choice, chosen-lt, input-gets, out-units, output-gets, wire-units}
+use Rattle.moved.proofs.Kept.{Kept·refl, filledSlots-later}
 use Rattle.moved.proofs.OneDetail.{Roomy}
 use Rattle.moved.proofs.Refilled.{Rewritten, connector-attrs, out-attrs, rewritten, same-model}
 use Rattle.moved.proofs.Regions.{connectorSlots, outputSlots}
 use Rattle.moved.proofs.SomeValue.{pick, signed-mag}
 use Rattle.moved.proofs.Stars.{Quiet, Stars, quiet, stars}
 use Rattle.moved.proofs.WellFormed.{filled-well, textCount, well-plain}
-use Rattle.moved.proofs.Widths.{AllCaps, image-roomy, slot-connector, slot-out}
+use Rattle.moved.proofs.Widths.{AllCaps, image-roomy}
 
 -- ---- over a model f that is m with the attributes of rule 6's slots
 
 -- f is m, with the attributes that rule 6 leaves
 pub record Filled (m f : Model) : Type 0 where
   pub same : Same m f
-  pub connectors : (i : ℕ) → i < connectorCount m → connector f i .attrs ≡ slot (filled m) i
-  pub outputs : (i : ℕ) → i < boundaryOutputCount m → boundaryOutput f i .attrs ≡ slot (filled m) (connectorCount m + i)
+  pub connectors : (i : ℕ) → i < connectorCount m → connector f i .attrs ≡ slot (filledSlots m) i
+  pub outputs : (i : ℕ) → i < boundaryOutputCount m → boundaryOutput f i .attrs ≡ slot (filledSlots m) (connectorCount m + i)
 
 -- ranges and texts are read alike in both
 range-same : (m f : Model) → Same m f → (a : Attrs) → rangeOf (f .defaults) a ≡ rangeOf (m .defaults) a
@@ -68,20 +69,20 @@ units-same m f s a b = rw (alike-same m f s (declaredAt a unitBit) (declaredAt b
 
 module _ (m f : Model) (is : Filled m f) where
   kept-connectors : (i : ℕ) → i < connectorCount m → Kept (connector m i .attrs) (connector f i .attrs)
-  kept-connectors i l = rw (is .connectors i l, ← (slot-connector m i l)) (filledTo-later m (connectorCount m) .at i)
+  kept-connectors i l = rw (is .connectors i l, ← (slot-connector m i l)) (filledSlots-later m .at i)
 
   kept-outs : (i : ℕ) → i < boundaryOutputCount m → Kept (boundaryOutput m i .attrs) (boundaryOutput f i .attrs)
-  kept-outs i l = rw (is .outputs i l, ← (slot-out m i)) (filledTo-later m (connectorCount m) .at (connectorCount m + i))
+  kept-outs i l = rw (is .outputs i l, ← (slot-out m i)) (filledSlots-later m .at (connectorCount m + i))
 
   kept-ins : (i : ℕ) → Kept (boundaryInput m i .attrs) (boundaryInput f i .attrs)
   unfolding boundaryInput
   kept-ins i = rw (is .same .boundaryInputs) (Kept·refl _)
 
   -- the filled range of a connector, and of a boundary output
-  range-at : (i : ℕ) → i < connectorCount m → rangeOf (f .defaults) (connector f i .attrs) ≡ rangeOf (m .defaults) (slot (filled m) i)
+  range-at : (i : ℕ) → i < connectorCount m → rangeOf (f .defaults) (connector f i .attrs) ≡ rangeOf (m .defaults) (slot (filledSlots m) i)
   range-at i l = range-same m f (is .same) (connector f i .attrs) ∙ ap (rangeOf (m .defaults)) (is .connectors i l)
 
-  range-out : (i : ℕ) → i < boundaryOutputCount m → rangeOf (f .defaults) (boundaryOutput f i .attrs) ≡ rangeOf (m .defaults) (slot (filled m) (connectorCount m + i))
+  range-out : (i : ℕ) → i < boundaryOutputCount m → rangeOf (f .defaults) (boundaryOutput f i .attrs) ≡ rangeOf (m .defaults) (slot (filledSlots m) (connectorCount m + i))
   range-out i l = range-same m f (is .same) (boundaryOutput f i .attrs) ∙ ap (rangeOf (m .defaults)) (is .outputs i l)
 
 -- ---- the model of an accepted image
@@ -108,19 +109,20 @@ unfolding modelOf
 low-end s = signed-mag _
 
 -- without errors the filled image is the image with rule 6's slots
-filled-is : (s : List ℕ) → hasError (reportOf s) ≡ false → filledOf s ≡ withSlots s (filled (modelOf s))
-unfolding filledOf finalSlots filledSlots reportOf
+filled-is : (s : List ℕ) → hasError (reportOf s) ≡ false → filledOf s ≡ withSlots s (filledSlots (modelOf s))
+unfolding filledOf finalSlots reportOf
 filled-is s h = rw h
 
 -- so its model is the image's with rule 6's slots
 pub again : (s : List ℕ) → Bytes s → refusal s ≡ none → hasError (reportOf s) ≡ false → Filled (modelOf s) (modelOf (filledOf s))
+unfolding filledSlots
 again s bytes ok clean = rw (filled-is s clean) (record { same = same-model s t σ acc w; connectors = connector-attrs s t σ acc w six caps; outputs = out-attrs s t σ acc w six caps })
   where
     acc : Accepted s
     acc = accepted s ok
 
     σ : Slots
-    σ = filled (modelOf s)
+    σ = filledSlots (modelOf s)
 
     t : List ℕ
     t = withSlots s σ
@@ -136,7 +138,7 @@ again s bytes ok clean = rw (filled-is s clean) (record { same = same-model s t 
 
 -- of every accepted image whose report holds no error and in which every connector's attributes are of its type's kind
 pub wired : (s : List ℕ) → Bytes s → refusal s ≡ none → hasError (reportOf s) ≡ false → OfTypes (modelOf s) → Wired (modelOf s) (modelOf (filledOf s))
-unfolding reportOf
+unfolding reportOf filledSlots
 wired s bytes ok clean kinds = record {
   same = is .same;
   keptConnectors = kept-connectors m f is;
@@ -149,10 +151,10 @@ wired s bytes ok clean kinds = record {
       let p = output-gets m st qu kinds room x (chose x choice) i l in
       record { value = p .0; one = p .1; typed = p .2; ranged = rw (range-out m f is i l) (p .3) };
   unitsIn = λ k l.
-      rw (is .connectors (connection m k .to) (to-lt m st k l), is .connectors (connection m k .from) (from-lt m st k l), units-same m f (is .same) (slot (filled m) (connection m k .to)) (slot (filled m) (connection m k .from)))
+      rw (is .connectors (connection m k .to) (to-lt m st k l), is .connectors (connection m k .from) (from-lt m st k l), units-same m f (is .same) (slot (filledSlots m) (connection m k .to)) (slot (filledSlots m) (connection m k .from)))
       (wire-units m st qu kinds room plain k l);
   unitsOut = λ i l.
-      rw (is .outputs i l, is .connectors (boundaryOutput m i .source) (source-lt m st i l), units-same m f (is .same) (slot (filled m) (connectorCount m + i)) (slot (filled m) (boundaryOutput m i .source)))
+      rw (is .outputs i l, is .connectors (boundaryOutput m i .source) (source-lt m st i l), units-same m f (is .same) (slot (filledSlots m) (connectorCount m + i)) (slot (filledSlots m) (boundaryOutput m i .source)))
       (out-units m st qu kinds room plain i l);
   exists = (x₀, λ i h. given x₀ i h (a-choice m st qu kinds room (types s acc) (low-end s) i h));
 }
@@ -178,8 +180,8 @@ wired s bytes ok clean kinds = record {
     room : Roomy (slotsOf m)
     room = image-roomy s
 
-    plain : (i : ℕ) → slot (filled m) i .kind ≢ realKind → (declaredAt (slot (filled m) i) quantityBit ≡ none) × (declaredAt (slot (filled m) i) unitBit ≡ none)
-    plain i = well-plain (textCount s) (slot (filled m) i) (filled-well s acc (connectorCount m) .at i)
+    plain : (i : ℕ) → slot (filledSlots m) i .kind ≢ realKind → (declaredAt (slot (filledSlots m) i) quantityBit ≡ none) × (declaredAt (slot (filledSlots m) i) unitBit ≡ none)
+    plain i = well-plain (textCount s) (slot (filledSlots m) i) (filled-well s acc (connectorCount m) .at i)
 
     chose : (x : ℕ → Datum) → Choice m f x → (i : ℕ) → chosen m i ≡ true → Chosen m st qu kinds room x i
     chose x choice i h = let p = choice i h in record { typed = p .0; ranged = rw (range-at m f is i (chosen-lt m i h)) at (p .1) }
@@ -188,4 +190,4 @@ wired s bytes ok clean kinds = record {
     given x i h p = (p .typed, rw (range-at m f is i (chosen-lt m i h)) (p .ranged))
 
     x₀ : ℕ → Datum
-    x₀ = λ i. pick (connector m i .valueType) (connector m i .enumClass) (rangeOf (m .defaults) (slot (filled m) i))
+    x₀ = λ i. pick (connector m i .valueType) (connector m i .enumClass) (rangeOf (m .defaults) (slot (filledSlots m) i))

@@ -7,7 +7,6 @@ use mathlib.Core.List.{List}
 use mathlib.Core.Option.{none}
 use lib.ListN.{length}
 use Rattle.base.specs.Lists.{steps}
-use Rattle.oce_model.specs.Image.{fields}
 use Rattle.oce_model.specs.Model.{Model, modelOf, connectorCount}
 use Rattle.oce_model.specs.Refusals.{refusal}
 use Rattle.oce_diag.specs.Diagnostics.{hasError}
@@ -22,7 +21,7 @@ use Rattle.unify.proofs.Fixed.{filledTo-fixed, put-room}
 use Rattle.moved.proofs.Widths.{AllCaps, image-caps, filledTo-caps, six-numbers}
 use Rattle.moved.proofs.WellFormed.{filled-well}
 use Rattle.moved.proofs.Regions.{connectorSlots, outputSlots}
-use Rattle.moved.proofs.Refilled.{Rewritten, rewritten, fields-same, same-model}
+use Rattle.moved.proofs.Refilled.{Rewritten, rewritten}
 use Rattle.moved.proofs.AcceptedAgain.{accepts}
 use Rattle.moved.proofs.Undone.{undone}
 

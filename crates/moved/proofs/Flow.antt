@@ -16,24 +16,20 @@ use Rattle.oce_model.specs.Model.{Connector, Model, boundaryOutput, boundaryOut
 use Rattle.crossed_bounds.specs.Ranges.{crossed, rangeOf}
 use Rattle.crossed_bounds.specs.Values.{Datum, inside, ofKind, ofType}
 use Rattle.unify.specs.Clusters.{driven, isRoot}
-use Rattle.unify.specs.Slots.{Slots, slot, slotsOf}
-use Rattle.unify.specs.Unify.{filledTo}
+use Rattle.unify.specs.Slots.{slot, slotsOf}
+use Rattle.unify.specs.Unify.{filledSlots, filledTo}
 use Rattle.moved.specs.Moved.{OfTypes, alikeUnits, arrivals, chosen, connected, delivered}
 use Rattle.base.proofs.Lists.{and-parts, below-some}
 use Rattle.base.proofs.Members.{below-found, each-only}
 use Rattle.moved.proofs.Clusters.{alone, driven-root, from-lt, one-wire, out-driven, source-kind, source-lt, source-out, to-lt, wire-driven}
 use Rattle.moved.proofs.OneDetail.{Roomy}
 use Rattle.moved.proofs.SameRange.{OneKey, same-inside, same-units}
-use Rattle.unify.proofs.Fixed.{filledTo-fixed, put-kind}
+use Rattle.unify.proofs.Fixed.{filledSlots-fixed, put-kind}
+use Rattle.unify.proofs.Local.{between}
+use Rattle.unify.proofs.Slots.{slot-connector, slot-out}
 use Rattle.moved.proofs.Settled.{one-key}
 use Rattle.moved.proofs.SomeValue.{pick, pick-fits}
 use Rattle.moved.proofs.Stars.{Quiet, Stars}
-use Rattle.moved.proofs.Untouched.{between}
-use Rattle.moved.proofs.Widths.{slot-connector, slot-out}
-
--- the slots that rule 6 leaves: `filledSlots`, opened
-abbrev pub filled : Model → Slots
-filled m = filledTo m (connectorCount m)
 
 -- ---- inputs with and without a connection
 
@@ -55,9 +51,10 @@ pub chosen-lt : (m : Model) (i : ℕ) → chosen m i ≡ true → i < connectorC
 unfolding chosen
 chosen-lt m i c = ltb-true _ _ (and-parts _ _ c .0)
 
-from-start : (m : Model) (i : ℕ) → slot (filledTo m 0) i ≡ slot (slotsOf m) i
-unfolding filledTo steps
-from-start m i = refl
+-- a slot that belongs to no cluster stays as it was
+unclustered : (m : Model) (i : ℕ) → ((r : ℕ) → isRoot m r ≡ true → List·Memᴰ i (r ∷ driven m r) → ⊥) → slot (filledSlots m) i ≡ slot (slotsOf m) i
+unfolding filledSlots filledTo steps
+unclustered m i h = between m 0 (connectorCount m) i (omega arith) (λ r a b. h r)
 
 module _ (m : Model) (stars : Stars m) (quiet : Quiet m) (kinds : OfTypes m) (room : Roomy (slotsOf m)) where
   -- ---- one range and alike texts along each connection
@@ -68,14 +65,14 @@ module _ (m : Model) (stars : Stars m) (quiet : Quiet m) (kinds : OfTypes m) (ro
   out-kind : (i : ℕ) → i < boundaryOutputCount m → slot (slotsOf m) (connectorCount m + i) .kind ≡ connector m (boundaryOutput m i .source) .valueType
   out-kind i l = ap (λ (a : Attrs). a .kind) (slot-out m i) ∙ source-kind m stars i l
 
-  pub filled-kind : (i : ℕ) → i < connectorCount m → slot (filled m) i .kind ≡ connector m i .valueType
-  filled-kind i l = filledTo-fixed (λ a. a .kind) put-kind m (connectorCount m) i ∙ slot-kind i l
+  pub filled-kind : (i : ℕ) → i < connectorCount m → slot (filledSlots m) i .kind ≡ connector m i .valueType
+  filled-kind i l = filledSlots-fixed (λ a. a .kind) put-kind m i ∙ slot-kind i l
 
   members-key : (r i j : ℕ) → r < connectorCount m → isRoot m r ≡ true → List·Memᴰ i (r ∷ driven m r) → List·Memᴰ j (r ∷ driven m r)
-      → i < connectorCount m + boundaryOutputCount m → j < connectorCount m + boundaryOutputCount m → slot (slotsOf m) i .kind ≡ slot (slotsOf m) j .kind → OneKey m (slot (filled m) i) (slot (filled m) j)
+      → i < connectorCount m + boundaryOutputCount m → j < connectorCount m + boundaryOutputCount m → slot (slotsOf m) i .kind ≡ slot (slotsOf m) j .kind → OneKey m (slot (filledSlots m) i) (slot (filledSlots m) j)
   members-key r i j l e a b p q k =
-      let f = filledTo-fixed (λ a. a .kind) put-kind m (connectorCount m) i in
-      let g = filledTo-fixed (λ a. a .kind) put-kind m (connectorCount m) j in
+      let f = filledSlots-fixed (λ a. a .kind) put-kind m i in
+      let g = filledSlots-fixed (λ a. a .kind) put-kind m j in
       record {
         kind = f ∙ k ∙ sym g;
         keys = λ d o h. one-key m stars quiet room r l e d o i j a b p q (sym f ∙ h) (sym k ∙ sym f ∙ h);
@@ -87,7 +84,7 @@ module _ (m : Model) (stars : Stars m) (quiet : Quiet m) (kinds : OfTypes m) (ro
   pub same-class : (k : ℕ) → k < connectionCount m → connector m (connection m k .from) .enumClass ≡ connector m (connection m k .to) .enumClass
   same-class k l = eqb-true _ _ (and-parts (eqb (connector m (connection m k .from) .valueType) (connector m (connection m k .to) .valueType)) _ (stars .wires k l .alike) .1)
 
-  wire-key : (k : ℕ) → k < connectionCount m → OneKey m (slot (filled m) (connection m k .to)) (slot (filled m) (connection m k .from))
+  wire-key : (k : ℕ) → k < connectionCount m → OneKey m (slot (filledSlots m) (connection m k .to)) (slot (filledSlots m) (connection m k .from))
   wire-key k l =
       let r = connection m k .from in
       let t = connection m k .to in
@@ -96,7 +93,7 @@ module _ (m : Model) (stars : Stars m) (quiet : Quiet m) (kinds : OfTypes m) (ro
       members-key r t r a (driven-root m stars r t (wire-driven m stars k l)) (List·Memᴰ·tail (wire-driven m stars k l)) (List·Memᴰ·head refl) (omega arith) (omega arith)
       (slot-kind t b ∙ sym (same-type k l) ∙ sym (slot-kind r a))
 
-  out-key : (i : ℕ) → i < boundaryOutputCount m → OneKey m (slot (filled m) (connectorCount m + i)) (slot (filled m) (boundaryOutput m i .source))
+  out-key : (i : ℕ) → i < boundaryOutputCount m → OneKey m (slot (filledSlots m) (connectorCount m + i)) (slot (filledSlots m) (boundaryOutput m i .source))
   out-key i l =
       let r = boundaryOutput m i .source in
       let t = connectorCount m + i in
@@ -105,11 +102,11 @@ module _ (m : Model) (stars : Stars m) (quiet : Quiet m) (kinds : OfTypes m) (ro
       (out-kind i l ∙ sym (slot-kind r a))
 
   -- where kinds other than Real have neither unit nor quantity
-  module _ (plain : (i : ℕ) → slot (filled m) i .kind ≢ realKind → (declaredAt (slot (filled m) i) quantityBit ≡ none) × (declaredAt (slot (filled m) i) unitBit ≡ none)) where
-    pub wire-units : (k : ℕ) → k < connectionCount m → alikeUnits m (slot (filled m) (connection m k .to)) (slot (filled m) (connection m k .from)) ≡ true
+  module _ (plain : (i : ℕ) → slot (filledSlots m) i .kind ≢ realKind → (declaredAt (slot (filledSlots m) i) quantityBit ≡ none) × (declaredAt (slot (filledSlots m) i) unitBit ≡ none)) where
+    pub wire-units : (k : ℕ) → k < connectionCount m → alikeUnits m (slot (filledSlots m) (connection m k .to)) (slot (filledSlots m) (connection m k .from)) ≡ true
     wire-units k l = same-units m _ _ (wire-key k l) (plain (connection m k .to)) (plain (connection m k .from))
 
-    pub out-units : (i : ℕ) → i < boundaryOutputCount m → alikeUnits m (slot (filled m) (connectorCount m + i)) (slot (filled m) (boundaryOutput m i .source)) ≡ true
+    pub out-units : (i : ℕ) → i < boundaryOutputCount m → alikeUnits m (slot (filledSlots m) (connectorCount m + i)) (slot (filledSlots m) (boundaryOutput m i .source)) ≡ true
     out-units i l = same-units m _ _ (out-key i l) (plain (connectorCount m + i)) (plain (boundaryOutput m i .source))
 
   -- ---- what arrives
@@ -131,18 +128,18 @@ module _ (m : Model) (stars : Stars m) (quiet : Quiet m) (kinds : OfTypes m) (ro
   -- what a choice says of connector i
   pub record Chosen (x : ℕ → Datum) (i : ℕ) : Type 0 where
     pub typed : ofType (connector m i) (x i) ≡ true
-    pub ranged : inside (rangeOf (m .defaults) (slot (filled m) i)) (x i) ≡ true
+    pub ranged : inside (rangeOf (m .defaults) (slot (filledSlots m) i)) (x i) ≡ true
 
   type-along : (c d : Connector) (v : Datum) → c .valueType ≡ d .valueType → c .enumClass ≡ d .enumClass → ofType c v ≡ true → ofType d v ≡ true
   unfolding ofType
   type-along c d v e f h = rw (e, f) at h
 
   pub input-gets : (x : ℕ → Datum) → ((i : ℕ) → chosen m i ≡ true → Chosen x i) → (i : ℕ) → i < connectorCount m → isIn (connector m i) ≡ true
-      → (v : Datum) × (arrivals m x i ≡ v ∷ []) × (ofType (connector m i) v ≡ true) × (inside (rangeOf (m .defaults) (slot (filled m) i)) v ≡ true)
+      → (v : Datum) × (arrivals m x i ≡ v ∷ []) × (ofType (connector m i) v ≡ true) × (inside (rangeOf (m .defaults) (slot (filledSlots m) i)) v ≡ true)
   input-gets x choice i l n = arm (connected m i) refl
     where
       Gets : ℕ → Type 0
-      Gets i = (v : Datum) × (arrivals m x i ≡ v ∷ []) × (ofType (connector m i) v ≡ true) × (inside (rangeOf (m .defaults) (slot (filled m) i)) v ≡ true)
+      Gets i = (v : Datum) × (arrivals m x i ≡ v ∷ []) × (ofType (connector m i) v ≡ true) × (inside (rangeOf (m .defaults) (slot (filledSlots m) i)) v ≡ true)
 
       fed : (k : ℕ) → k < connectionCount m → Gets (connection m k .to)
       fed k g =
@@ -161,7 +158,7 @@ module _ (m : Model) (stars : Stars m) (quiet : Quiet m) (kinds : OfTypes m) (ro
           (x i, free-arrives m x i e, c .typed, c .ranged)
 
   pub output-gets : (x : ℕ → Datum) → ((i : ℕ) → chosen m i ≡ true → Chosen x i) → (i : ℕ) → i < boundaryOutputCount m
-      → (v : Datum) × (delivered m x (boundaryOutput m i) ≡ v ∷ []) × (ofKind (boundaryOutput m i .attrs .kind) v ≡ true) × (inside (rangeOf (m .defaults) (slot (filled m) (connectorCount m + i))) v ≡ true)
+      → (v : Datum) × (delivered m x (boundaryOutput m i) ≡ v ∷ []) × (ofKind (boundaryOutput m i .attrs .kind) v ≡ true) × (inside (rangeOf (m .defaults) (slot (filledSlots m) (connectorCount m + i))) v ≡ true)
   unfolding delivered ofType
   output-gets x choice i l =
       let r = boundaryOutput m i .source in
@@ -183,20 +180,20 @@ module _ (m : Model) (stars : Stars m) (quiet : Quiet m) (kinds : OfTypes m) (ro
       arm false h g = true≢false (sym to-in ∙ h)
       arm true h g = true≢false (sym (below-some (connectionCount m) (λ k. eqb (connection m k .to) i) k l (eq-eqb _ i e)) ∙ not-true _ g)
 
-  uncrossed-at : (i : ℕ) → chosen m i ≡ true → crossed (rangeOf (m .defaults) (slot (filled m) i)) ≡ false
+  uncrossed-at : (i : ℕ) → chosen m i ≡ true → crossed (rangeOf (m .defaults) (slot (filledSlots m) i)) ≡ false
   uncrossed-at i c = arm (isRoot m i) refl
     where
       l : i < connectorCount m
       l = chosen-lt m i c
 
-      arm : (b : Bool) → isRoot m i ≡ b → crossed (rangeOf (m .defaults) (slot (filled m) i)) ≡ false
+      arm : (b : Bool) → isRoot m i ≡ b → crossed (rangeOf (m .defaults) (slot (filledSlots m) i)) ≡ false
       arm true e = quiet .rootRange i l e
       arm false e =
-          let s : slot (filled m) i ≡ slot (slotsOf m) i = between m 0 (connectorCount m) i (omega arith) (λ r a b f g. true≢false (sym f ∙ ap (isRoot m) (sym (alone m stars r i l (no-wire i c) g)) ∙ e)) ∙ from-start m i in
+          let s = unclustered m i (λ r f g. true≢false (sym f ∙ ap (isRoot m) (sym (alone m stars r i l (no-wire i c) g)) ∙ e)) in
           ap (λ a. crossed (rangeOf (m .defaults) a)) (s ∙ slot-connector m i l) ∙ quiet .range i l
 
   pub a-choice : ((i : ℕ) → i < connectorCount m → connector m i .valueType ≤ enumKind) → mag (m .defaults .min) < 2 ^ 63
-      → (i : ℕ) → chosen m i ≡ true → Chosen (λ i. pick (connector m i .valueType) (connector m i .enumClass) (rangeOf (m .defaults) (slot (filled m) i))) i
+      → (i : ℕ) → chosen m i ≡ true → Chosen (λ i. pick (connector m i .valueType) (connector m i .enumClass) (rangeOf (m .defaults) (slot (filledSlots m) i))) i
   a-choice types low i c =
-      let p = pick-fits m (connector m i) (slot (filled m) i) (filled-kind i (chosen-lt m i c)) (types i (chosen-lt m i c)) low (uncrossed-at i c) in
+      let p = pick-fits m (connector m i) (slot (filledSlots m) i) (filled-kind i (chosen-lt m i c)) (types i (chosen-lt m i c)) low (uncrossed-at i c) in
       record { typed = p .0; ranged = p .1 }

@@ -1,5 +1,5 @@
 -- Rule 6 changes no declared attribute: what a slot declares in the image, it declares likewise after every root.
-use Prim.Native.Nat.{ℕ, zero, suc, _+_, _≤_, _<_}
+use Prim.Native.Nat.{ℕ, zero, suc, _≤_, _<_}
 use native.Mathlib.Decide.{ℕ-discrete, decLt}
 use native.Mathlib.Omega.{arith}
 use mathlib.Core.Path.{_≡_, refl, sym, ap, _∙_}
@@ -13,10 +13,13 @@ use lib.Dec.{eqb}
 use Rattle.base.specs.Lists.{all, steps}
 use Rattle.numbers.specs.Bytes.{bit}
 use Rattle.oce_model.specs.Attributes.{Attrs, declareAt, declaredAt, noAttrs}
-use Rattle.oce_model.specs.Model.{Model}
+use Rattle.oce_model.specs.Model.{Model, connectorCount}
 use Rattle.unify.specs.Clusters.{driven, isRoot}
-use Rattle.unify.specs.Slots.{Slots, agree, bitOf, kindOf, put, putAt, slot, slotsOf}
-use Rattle.unify.specs.Unify.{declared, fill, fillRoot, filledTo, fills, putAll, settle}
+use Rattle.unify.specs.Details.{bitOf, kindOf, unifiedDetails}
+use Rattle.unify.specs.Slots.{Slots, agree, put, putAt, slot, slotsOf}
+use Rattle.unify.specs.Unify.{declarations, fill, fillDetails, fillRoot, filledSlots, filledTo, putMembers, settle}
+use Rattle.unify.specs.declared.Detail.{Detail}
+use Rattle.unify.proofs.Details.{bitOf-lt}
 use Rattle.unify.proofs.Declared.{unmarked, declareAt-kind, declareAt-other}
 use Rattle.moved.specs.Moved.{Kept}
 use Rattle.numbers.proofs.Bits.{bit-other}
@@ -30,18 +33,6 @@ Kept·trans h k = record {
   unbounded = (k .unbounded .0 ∙ h .unbounded .0, k .unbounded .1 ∙ h .unbounded .1);
   vals = λ p v e. k .vals p v (h .vals p v e);
 }
-
-pub bitOf-lt : (d : ℕ) → bitOf d < 6
-unfolding bitOf
-bitOf-lt zero = omega arith
-bitOf-lt (suc zero) = omega arith
-bitOf-lt (suc (suc zero)) = omega arith
-bitOf-lt (suc (suc (suc zero))) = omega arith
-bitOf-lt (suc (suc (suc (suc zero)))) = omega arith
-bitOf-lt (suc (suc (suc (suc (suc zero))))) = omega arith
-bitOf-lt (suc (suc (suc (suc (suc (suc zero)))))) = omega arith
-bitOf-lt (suc (suc (suc (suc (suc (suc (suc zero))))))) = omega arith
-bitOf-lt (suc (suc (suc (suc (suc (suc (suc (suc n)))))))) = omega arith
 
 declareAt-bit : (a : Attrs) (p q v : ℕ) → declaredAt a p ≡ none → q ≢ p → bit (declareAt a p v .marks) q ≡ bit (a .marks) q
 unfolding declareAt
@@ -69,7 +60,7 @@ cond-kept : (t : Bool) (a b c : Attrs) → Kept a b → Kept a c → Kept a (con
 cond-kept true a b c h k = h
 cond-kept false a b c h k = k
 
-pub put-kept : (d v : ℕ) (a : Attrs) → Kept a (put d v a)
+pub put-kept : (d : Detail) (v : ℕ) (a : Attrs) → Kept a (put d v a)
 unfolding put
 put-kept d v a = cond-kept (eqb (a .kind) (kindOf d)) a _ a (putAt-kept (bitOf d) v a (bitOf-lt d) (declaredAt a (bitOf d)) refl) (Kept·refl a)
 
@@ -93,38 +84,42 @@ set-later σ j x h = record { at = λ i. same i (ℕ-discrete i j) (decLt j (len
     same i (yes e) (yes l) = rw (e, getD-set-same σ j x noAttrs l) h
     same i (yes e) (no l) = rw (set-out σ j x (omega arith)) (Kept·refl _)
 
-pub putAll-later : (d v : ℕ) (js : List ℕ) (σ : Slots) → Later σ (putAll d v js σ)
-unfolding putAll
-putAll-later d v [] σ = later-refl σ
-putAll-later d v (j ∷ js) σ = later-trans (set-later σ j _ (put-kept d v (slot σ j))) (putAll-later d v js _)
+pub putMembers-later : (d : Detail) (v : ℕ) (js : List ℕ) (σ : Slots) → Later σ (putMembers d v js σ)
+unfolding putMembers
+putMembers-later d v [] σ = later-refl σ
+putMembers-later d v (j ∷ js) σ = later-trans (set-later σ j _ (put-kept d v (slot σ j))) (putMembers-later d v js _)
 
-settle-later : (m : Model) (d : ℕ) (vs js : List ℕ) (σ : Slots) → Later σ (settle m d vs js σ)
+settle-later : (ts : List (List ℕ)) (d : Detail) (vs js : List ℕ) (σ : Slots) → Later σ (settle ts d vs js σ)
 unfolding settle
-settle-later m d [] js σ = later-refl σ
-settle-later m d (v ∷ vs) js σ = arm (all (agree m d v) vs)
+settle-later ts d [] js σ = later-refl σ
+settle-later ts d (v ∷ vs) js σ = arm (all (agree ts d v) vs)
   where
-    arm : (b : Bool) → Later σ (cond b (putAll d v js σ) σ)
-    arm true = putAll-later d v js σ
+    arm : (b : Bool) → Later σ (cond b (putMembers d v js σ) σ)
+    arm true = putMembers-later d v js σ
     arm false = later-refl σ
 
-pub fill-later : (m : Model) (js : List ℕ) (d : ℕ) (σ : Slots) → Later σ (fill m js d σ)
+fill-later : (ts : List (List ℕ)) (js : List ℕ) (d : Detail) (σ : Slots) → Later σ (fill ts js d σ)
 unfolding fill
-fill-later m js d σ = settle-later m d (declared d σ js) js σ
+fill-later ts js d σ = settle-later ts d (declarations d σ js) js σ
 
--- what each step keeps, all steps keep
-steps-later : (f : ℕ → Slots → Slots) → ((i : ℕ) (σ : Slots) → Later σ (f i σ)) → (n : ℕ) (σ : Slots) → Later σ (steps n f σ)
-unfolding steps
-steps-later f h zero σ = later-refl σ
-steps-later f h (suc n) σ = later-trans (steps-later f h n σ) (h n (steps n f σ))
+details-later : (ts : List (List ℕ)) (js : List ℕ) (ds : List Detail) (σ : Slots) → Later σ (fillDetails ts js ds σ)
+unfolding fillDetails
+details-later ts js [] σ = later-refl σ
+details-later ts js (d ∷ ds) σ = later-trans (fill-later ts js d σ) (details-later ts js ds (fill ts js d σ))
 
 fillRoot-later : (m : Model) (r : ℕ) (σ : Slots) → Later σ (fillRoot m r σ)
-unfolding fillRoot fills
+unfolding fillRoot
 fillRoot-later m r σ = arm (isRoot m r)
   where
-    arm : (b : Bool) → Later σ (cond b (steps 6 (λ d τ. fill m (r ∷ driven m r) (d + 1) τ) σ) σ)
-    arm true = steps-later (λ d τ. fill m (r ∷ driven m r) (d + 1) τ) (λ d τ. fill-later m (r ∷ driven m r) (d + 1) τ) 6 σ
+    arm : (b : Bool) → Later σ (cond b (fillDetails (m .texts) (r ∷ driven m r) unifiedDetails σ) σ)
+    arm true = details-later (m .texts) (r ∷ driven m r) unifiedDetails σ
     arm false = later-refl σ
 
-pub filledTo-later : (m : Model) (n : ℕ) → Later (slotsOf m) (filledTo m n)
-unfolding filledTo
-filledTo-later m n = steps-later (fillRoot m) (fillRoot-later m) n (slotsOf m)
+filledTo-later : (m : Model) (n : ℕ) → Later (slotsOf m) (filledTo m n)
+unfolding filledTo steps
+filledTo-later m zero = later-refl (slotsOf m)
+filledTo-later m (suc n) = later-trans (filledTo-later m n) (fillRoot-later m n (filledTo m n))
+
+pub filledSlots-later : (m : Model) → Later (slotsOf m) (filledSlots m)
+unfolding filledSlots
+filledSlots-later m = filledTo-later m (connectorCount m)

@@ -1,14 +1,13 @@
--- Demand 3, in steps. Each file takes what the ones before it give; Demand has parts 3 to 7 over the definitions, Moved the demand of the two buffers of a checking call.
+-- Demand 3 (FORMAT 18), in steps. Each file takes what the ones before it give; Demand has parts 3 to 7 over the definitions, Moved the demand of the two buffers of a checking call.
 -- what is taken of every image
 pub mod Bytes
 -- what no error says of the model, and that its clusters share no slot
 pub mod NoError
 pub mod Stars
 pub mod Clusters
--- rule 6: nothing declared changes, one detail of one cluster, only members are touched, all members end with one key
+-- rule 6: nothing declared changes, one detail of one cluster, all members end with one key
 pub mod Kept
 pub mod OneDetail
-pub mod Untouched
 pub mod Settled
 -- what rule 6 keeps of the attributes of an accepted image: the widths of their numbers, and what refusals 6 and 8 ask
 pub mod Invariants

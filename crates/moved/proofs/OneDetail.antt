@@ -12,15 +12,17 @@ use lib.Dec.{eqb}
 use borrow.Author.Tests.{eq-eqb, not-false}
 use Rattle.base.specs.Lists.{all}
 use Rattle.oce_model.specs.Attributes.{Attrs, declareAt, declaredAt, noAttrs}
-use Rattle.oce_model.specs.Model.{Model}
-use Rattle.unify.specs.Slots.{Slots, agree, bitOf, key, kindOf, put, putAt, slot, value}
-use Rattle.unify.specs.Unify.{conflict, cons?, declared, fill, putAll, settle}
+use Rattle.unify.specs.Details.{bitOf, kindOf}
+use Rattle.unify.specs.Slots.{Slots, agree, key, put, putAt, slot, value}
+use Rattle.unify.specs.Unify.{conflict, cons?, declarations, fill, putMembers, settle}
+use Rattle.unify.specs.declared.Detail.{Detail}
+use Rattle.unify.proofs.Details.{bitOf-lt}
 use Rattle.moved.specs.Moved.{Kept}
 use Rattle.base.proofs.Lists.{same-sound}
 use Rattle.base.proofs.Members.{all-mem}
 use Rattle.unify.proofs.Fixed.{set-fixed, put-kind, put-room}
 use Rattle.unify.proofs.Declared.{declareAt-kind, declareAt-same}
-use Rattle.moved.proofs.Kept.{bitOf-lt, putAll-later}
+use Rattle.moved.proofs.Kept.{putMembers-later}
 
 slot-set : (σ : Slots) (j : ℕ) (x : Attrs) → j < length σ → slot (set σ j x) j ≡ x
 unfolding slot
@@ -31,12 +33,12 @@ pub record Roomy (σ : Slots) : Type 0 where
   pub at : (i : ℕ) → i < length σ → 6 ≤ length (slot σ i .nums)
 
 -- slot j can have the detail d
-pub record Open (d : ℕ) (σ : Slots) (j : ℕ) : Type 0 where
+pub record Open (d : Detail) (σ : Slots) (j : ℕ) : Type 0 where
   pub inside : j < length σ
   pub kind : slot σ j .kind ≡ kindOf d
 
 -- put leaves what a member would have: its own value, or v
-module _ (d v : ℕ) where
+module _ (d : Detail) (v : ℕ) where
   own : Attrs → ℕ
   own a = Option·getD (value d a) v
 
@@ -56,11 +58,11 @@ module _ (d v : ℕ) where
   roomy-set : (σ : Slots) → Roomy σ → (j : ℕ) → Roomy (set σ j (put d v (slot σ j)))
   roomy-set σ ρ j = record { at = λ i l. rw (set-fixed (λ a. length (a .nums)) σ j i (put d v (slot σ j)) (λ k. put-room d v (slot σ j))) (ρ .at i (rw length-set at l)) }
 
-  own-putAll : (js : List ℕ) (σ : Slots) → Roomy σ → (i : ℕ) → Option·getD (value d (slot (putAll d v js σ) i)) v ≡ Option·getD (value d (slot σ i)) v
-  unfolding own putAll
-  own-putAll [] σ ρ i = refl
-  own-putAll (j ∷ js) σ ρ i =
-      own-putAll js (set σ j (put d v (slot σ j))) (roomy-set σ ρ j) i ∙ set-fixed own σ j i (put d v (slot σ j)) (λ l. own-put (slot σ j) (ρ .at j l))
+  own-putMembers : (js : List ℕ) (σ : Slots) → Roomy σ → (i : ℕ) → Option·getD (value d (slot (putMembers d v js σ) i)) v ≡ Option·getD (value d (slot σ i)) v
+  unfolding own putMembers
+  own-putMembers [] σ ρ i = refl
+  own-putMembers (j ∷ js) σ ρ i =
+      own-putMembers js (set σ j (put d v (slot σ j))) (roomy-set σ ρ j) i ∙ set-fixed own σ j i (put d v (slot σ j)) (λ l. own-put (slot σ j) (ρ .at j l))
 
   -- a value that is set stays
   set-stays : {a b : Attrs} → Kept a b → (u : ℕ) → value d a ≡ some u → value d b ≡ some u
@@ -81,25 +83,25 @@ module _ (d v : ℕ) where
       arm none h = (v, rw (declareAt-kind a (bitOf d) v, eq-eqb (a .kind) (kindOf d) e) (declareAt-same a (bitOf d) v h (omega (arith, bitOf-lt d))))
       arm (some u) h = (u, rw (eq-eqb (a .kind) (kindOf d) e) h)
 
-  putAll-some : (js : List ℕ) (σ : Slots) (j : ℕ) → List·Memᴰ j js → Roomy σ → Open d σ j → (u : ℕ) × (value d (slot (putAll d v js σ) j) ≡ some u)
-  unfolding putAll
-  putAll-some [] σ j mem ρ o = absurd (List·Memᴰ·not-nil mem)
-  putAll-some (i ∷ js) σ j mem ρ o = arm (List·Memᴰ·cases-cons mem) (putAll-some js σ₁ j)
+  putMembers-some : (js : List ℕ) (σ : Slots) (j : ℕ) → List·Memᴰ j js → Roomy σ → Open d σ j → (u : ℕ) × (value d (slot (putMembers d v js σ) j) ≡ some u)
+  unfolding putMembers
+  putMembers-some [] σ j mem ρ o = absurd (List·Memᴰ·not-nil mem)
+  putMembers-some (i ∷ js) σ j mem ρ o = arm (List·Memᴰ·cases-cons mem) (putMembers-some js σ₁ j)
     where
       σ₁ : Slots
       σ₁ = set σ i (put d v (slot σ i))
 
-      arm : (j ≡ i) ⊎ List·Memᴰ j js → (List·Memᴰ j js → Roomy σ₁ → Open d σ₁ j → (u : ℕ) × (value d (slot (putAll d v js σ₁) j) ≡ some u))
-          → (u : ℕ) × (value d (slot (putAll d v js σ₁) j) ≡ some u)
+      arm : (j ≡ i) ⊎ List·Memᴰ j js → (List·Memᴰ j js → Roomy σ₁ → Open d σ₁ j → (u : ℕ) × (value d (slot (putMembers d v js σ₁) j) ≡ some u))
+          → (u : ℕ) × (value d (slot (putMembers d v js σ₁) j) ≡ some u)
       arm (inl e) ih =
           let s : slot σ₁ j ≡ put d v (slot σ j) = rw e (slot-set σ i (put d v (slot σ i)) (rw e at (o .inside))) in
           let p = put-some (slot σ j) (o .kind) (ρ .at j (o .inside)) in
-          (p .0, set-stays (putAll-later d v js σ₁ .at j) (p .0) (ap (value d) s ∙ p .1))
+          (p .0, set-stays (putMembers-later d v js σ₁ .at j) (p .0) (ap (value d) s ∙ p .1))
       arm (inr h) ih = ih h (roomy-set σ ρ i) (record { inside = lt-length-set σ i _ (o .inside); kind = set-fixed (λ a. a .kind) σ i j (put d v (slot σ i)) (λ l. put-kind d v (slot σ i)) ∙ o .kind })
 
   -- what a member declares is among what the cluster declares
-  declared-mem : (js : List ℕ) (σ : Slots) (j u : ℕ) → List·Memᴰ j js → value d (slot σ j) ≡ some u → List·Memᴰ u (declared d σ js)
-  unfolding declared
+  declared-mem : (js : List ℕ) (σ : Slots) (j u : ℕ) → List·Memᴰ j js → value d (slot σ j) ≡ some u → List·Memᴰ u (declarations d σ js)
+  unfolding declarations
   declared-mem [] σ j u mem h = absurd (List·Memᴰ·not-nil mem)
   declared-mem (i ∷ js) σ j u mem h = arm (List·Memᴰ·cases-cons mem) (declared-mem js σ j u)
     where
@@ -107,46 +109,46 @@ module _ (d v : ℕ) where
       later none l k = k
       later (some x) l k = List·Memᴰ·tail k
 
-      arm : (j ≡ i) ⊎ List·Memᴰ j js → (List·Memᴰ j js → value d (slot σ j) ≡ some u → List·Memᴰ u (declared d σ js)) → List·Memᴰ u (cons? (value d (slot σ i)) (declared d σ js))
+      arm : (j ≡ i) ⊎ List·Memᴰ j js → (List·Memᴰ j js → value d (slot σ j) ≡ some u → List·Memᴰ u (declarations d σ js)) → List·Memᴰ u (cons? (value d (slot σ i)) (declarations d σ js))
       arm (inl e) ih = rw (sym (ap (λ k. value d (slot σ k)) e) ∙ h) (List·Memᴰ·head refl)
-      arm (inr k) ih = later (value d (slot σ i)) (declared d σ js) (ih k h)
+      arm (inr k) ih = later (value d (slot σ i)) (declarations d σ js) (ih k h)
 
-agreed : (m : Model) (d u v : ℕ) → agree m d u v ≡ true → key m d u ≡ key m d v
+agreed : (ts : List (List ℕ)) (d : Detail) (u v : ℕ) → agree ts d u v ≡ true → key ts d u ≡ key ts d v
 unfolding agree
-agreed m d u v h = same-sound (key m d u) (key m d v) h
+agreed ts d u v h = same-sound (key ts d u) (key ts d v) h
 
 -- the key that a cluster comes to have
-abbrev pub keyOf : Model → ℕ → List ℕ → Option (List ℕ)
-keyOf m d [] = none
-keyOf m d (v ∷ vs) = some (key m d v)
+abbrev pub keyOf : List (List ℕ) → Detail → List ℕ → Option (List ℕ)
+keyOf ts d [] = none
+keyOf ts d (v ∷ vs) = some (key ts d v)
 
-module _ (m : Model) (d : ℕ) (js : List ℕ) (σ : Slots) (j : ℕ) (mem : List·Memᴰ j js) (ρ : Roomy σ) (o : Open d σ j) where
-  settle-key : (vs : List ℕ) → declared d σ js ≡ vs → conflict m d vs ≡ false → Option·map (key m d) (value d (slot (settle m d vs js σ) j)) ≡ keyOf m d vs
+module _ (ts : List (List ℕ)) (d : Detail) (js : List ℕ) (σ : Slots) (j : ℕ) (mem : List·Memᴰ j js) (ρ : Roomy σ) (o : Open d σ j) where
+  settle-key : (vs : List ℕ) → declarations d σ js ≡ vs → conflict ts d vs ≡ false → Option·map (key ts d) (value d (slot (settle ts d vs js σ) j)) ≡ keyOf ts d vs
   unfolding settle conflict
   settle-key [] e h = arm (value d (slot σ j)) refl
     where
-      arm : (w : Option ℕ) → value d (slot σ j) ≡ w → Option·map (key m d) w ≡ none
+      arm : (w : Option ℕ) → value d (slot σ j) ≡ w → Option·map (key ts d) w ≡ none
       arm none q = refl
       arm (some u) q = absurd (List·Memᴰ·not-nil (rw e at (declared-mem d 0 js σ j u mem q)))
   settle-key (v ∷ vs) e h =
-      let a : all (agree m d v) vs ≡ true = not-false _ h in
+      let a : all (agree ts d v) vs ≡ true = not-false _ h in
       rw a (arm (value d (slot σ j)) refl a)
     where
-      arm : (w : Option ℕ) → value d (slot σ j) ≡ w → all (agree m d v) vs ≡ true → Option·map (key m d) (value d (slot (putAll d v js σ) j)) ≡ some (key m d v)
+      arm : (w : Option ℕ) → value d (slot σ j) ≡ w → all (agree ts d v) vs ≡ true → Option·map (key ts d) (value d (slot (putMembers d v js σ) j)) ≡ some (key ts d v)
       arm w q a =
-          let p = putAll-some d v js σ j mem ρ o in
-          let u : p .0 ≡ Option·getD w v = ap (λ x. Option·getD x v) (sym (p .1)) ∙ (own-putAll d v js σ ρ j ∙ ap (λ x. Option·getD x v) q) in
+          let p = putMembers-some d v js σ j mem ρ o in
+          let u : p .0 ≡ Option·getD w v = ap (λ x. Option·getD x v) (sym (p .1)) ∙ (own-putMembers d v js σ ρ j ∙ ap (λ x. Option·getD x v) q) in
           rw (p .1, u) (ap some (which w q))
         where
-          which : (w : Option ℕ) → value d (slot σ j) ≡ w → key m d (Option·getD w v) ≡ key m d v
+          which : (w : Option ℕ) → value d (slot σ j) ≡ w → key ts d (Option·getD w v) ≡ key ts d v
           which none q = refl
           which (some x) q = side (List·Memᴰ·cases-cons (rw e at (declared-mem d v js σ j x mem q)))
             where
-              side : (x ≡ v) ⊎ List·Memᴰ x vs → key m d x ≡ key m d v
-              side (inl e) = ap (key m d) e
-              side (inr k) = sym (agreed m d v x (all-mem (agree m d v) vs x a k))
+              side : (x ≡ v) ⊎ List·Memᴰ x vs → key ts d x ≡ key ts d v
+              side (inl e) = ap (key ts d) e
+              side (inr k) = sym (agreed ts d v x (all-mem (agree ts d v) vs x a k))
 
-pub fill-key : (m : Model) (d : ℕ) (js : List ℕ) (σ : Slots) → conflict m d (declared d σ js) ≡ false → (j : ℕ) → List·Memᴰ j js → Roomy σ → Open d σ j
-    → Option·map (key m d) (value d (slot (fill m js d σ) j)) ≡ keyOf m d (declared d σ js)
+pub fill-key : (ts : List (List ℕ)) (d : Detail) (js : List ℕ) (σ : Slots) → conflict ts d (declarations d σ js) ≡ false → (j : ℕ) → List·Memᴰ j js → Roomy σ → Open d σ j
+    → Option·map (key ts d) (value d (slot (fill ts js d σ) j)) ≡ keyOf ts d (declarations d σ js)
 unfolding fill
-fill-key m d js σ h j mem ρ o = settle-key m d js σ j mem ρ o (declared d σ js) refl h
+fill-key ts d js σ h j mem ρ o = settle-key ts d js σ j mem ρ o (declarations d σ js) refl h

@@ -1,28 +1,32 @@
 -- From one key for each detail to one range, and to texts that are alike.
-use Prim.Native.Nat.{ℕ, _+_, _<_}
+use Prim.Native.Nat.{ℕ}
 use native.Mathlib.Decide.{ℕ-discrete}
-use native.Mathlib.Omega.{arith}
 use mathlib.Core.Path.{_≡_, refl, sym, ap, _∙_}
 use mathlib.Core.Logic.{_≢_}
 use mathlib.Core.Bool.{true, _&&_}
 use mathlib.Core.List.{[], _∷_}
 use mathlib.Core.Option.{Option, none, some, Option·map, Option·none-ne-some, Option·some-ne-none}
 use borrow.Author.Tests.{eq-eqb, ne-eqb}
+use Rattle.base.specs.Lists.{any}
 use Rattle.oce_model.specs.Format.{integerKind, maxBit, minBit, quantityBit, realKind, unitBit}
 use Rattle.oce_model.specs.Attributes.{Attrs, declaredAt}
 use Rattle.oce_model.specs.Model.{Model, text}
 use Rattle.crossed_bounds.specs.Ranges.{rangeOf}
 use Rattle.crossed_bounds.specs.Values.{Datum, inside}
-use Rattle.unify.specs.Slots.{bitOf, key, kindOf, value}
+use Rattle.unify.specs.Details.{bitOf, detailNumber, isText, kindOf, unifiedDetails}
+use Rattle.unify.specs.Slots.{key, value}
+use Rattle.unify.specs.declared.Detail.{Detail}
+use Rattle.unify.specs.declared.Detail.the-variants.{Unit, Quantity, RealMin, RealMax, IntegerMin, IntegerMax}
+use Rattle.unify.proofs.Details.{among}
 use Rattle.moved.specs.Moved.{alike, alikeUnits}
 use Rattle.base.proofs.Lists.{same-refl}
 
--- two attributes of one kind that have one key for each detail of that kind
+-- two attribute sets of one kind that have one key for each detail of that kind
 pub record OneKey (m : Model) (a b : Attrs) : Type 0 where
   pub kind : a .kind ≡ b .kind
-  pub keys : (d : ℕ) → d < 6 → a .kind ≡ kindOf (d + 1) → Option·map (key m (d + 1)) (value (d + 1) a) ≡ Option·map (key m (d + 1)) (value (d + 1) b)
+  pub keys : (d : Detail) → among d unifiedDetails ≡ true → a .kind ≡ kindOf d → Option·map (key (m .texts) d) (value d a) ≡ Option·map (key (m .texts) d) (value d b)
 
-value-is : (d : ℕ) (a : Attrs) → a .kind ≡ kindOf d → value d a ≡ declaredAt a (bitOf d)
+value-is : (d : Detail) (a : Attrs) → a .kind ≡ kindOf d → value d a ≡ declaredAt a (bitOf d)
 unfolding value
 value-is d a e = rw (eq-eqb _ _ e)
 
@@ -39,32 +43,32 @@ alike-texts m (some u) none h = absurd (Option·some-ne-none _ h)
 alike-texts m (some u) (some v) h = let e : text m u ≡ text m v = cc in rw e (same-refl (text m v))
 
 module _ (m : Model) (a b : Attrs) (o : OneKey m a b) where
-  vals : (d : ℕ) → d < 6 → a .kind ≡ kindOf (d + 1) → Option·map (key m (d + 1)) (declaredAt a (bitOf (d + 1))) ≡ Option·map (key m (d + 1)) (declaredAt b (bitOf (d + 1)))
-  vals d l e = ap (Option·map (key m (d + 1))) (sym (value-is (d + 1) a e)) ∙ o .keys d l e ∙ ap (Option·map (key m (d + 1))) (value-is (d + 1) b (sym (o .kind) ∙ e))
+  vals : (d : Detail) → among d unifiedDetails ≡ true → a .kind ≡ kindOf d → Option·map (key (m .texts) d) (declaredAt a (bitOf d)) ≡ Option·map (key (m .texts) d) (declaredAt b (bitOf d))
+  vals d l e = ap (Option·map (key (m .texts) d)) (sym (value-is d a e)) ∙ o .keys d l e ∙ ap (Option·map (key (m .texts) d)) (value-is d b (sym (o .kind) ∙ e))
 
   unit : a .kind ≡ realKind → alike m (declaredAt a unitBit) (declaredAt b unitBit) ≡ true
-  unfolding key bitOf kindOf
-  unit e = alike-texts m (declaredAt a unitBit) (declaredAt b unitBit) (vals 0 (omega arith) e)
+  unfolding text key bitOf kindOf isText among any unifiedDetails detailNumber
+  unit e = alike-texts m (declaredAt a unitBit) (declaredAt b unitBit) (vals Unit refl e)
 
   quantity : a .kind ≡ realKind → alike m (declaredAt a quantityBit) (declaredAt b quantityBit) ≡ true
-  unfolding key bitOf kindOf
-  quantity e = alike-texts m (declaredAt a quantityBit) (declaredAt b quantityBit) (vals 1 (omega arith) e)
+  unfolding text key bitOf kindOf isText among any unifiedDetails detailNumber
+  quantity e = alike-texts m (declaredAt a quantityBit) (declaredAt b quantityBit) (vals Quantity refl e)
 
   real-min : a .kind ≡ realKind → declaredAt a minBit ≡ declaredAt b minBit
-  unfolding key bitOf kindOf
-  real-min e = singles (declaredAt a minBit) (declaredAt b minBit) (vals 2 (omega arith) e)
+  unfolding key bitOf kindOf isText among any unifiedDetails detailNumber
+  real-min e = singles (declaredAt a minBit) (declaredAt b minBit) (vals RealMin refl e)
 
   real-max : a .kind ≡ realKind → declaredAt a maxBit ≡ declaredAt b maxBit
-  unfolding key bitOf kindOf
-  real-max e = singles (declaredAt a maxBit) (declaredAt b maxBit) (vals 3 (omega arith) e)
+  unfolding key bitOf kindOf isText among any unifiedDetails detailNumber
+  real-max e = singles (declaredAt a maxBit) (declaredAt b maxBit) (vals RealMax refl e)
 
   integer-min : a .kind ≡ integerKind → declaredAt a minBit ≡ declaredAt b minBit
-  unfolding key bitOf kindOf
-  integer-min e = singles (declaredAt a minBit) (declaredAt b minBit) (vals 4 (omega arith) e)
+  unfolding key bitOf kindOf isText among any unifiedDetails detailNumber
+  integer-min e = singles (declaredAt a minBit) (declaredAt b minBit) (vals IntegerMin refl e)
 
   integer-max : a .kind ≡ integerKind → declaredAt a maxBit ≡ declaredAt b maxBit
-  unfolding key bitOf kindOf
-  integer-max e = singles (declaredAt a maxBit) (declaredAt b maxBit) (vals 5 (omega arith) e)
+  unfolding key bitOf kindOf isText among any unifiedDetails detailNumber
+  integer-max e = singles (declaredAt a maxBit) (declaredAt b maxBit) (vals IntegerMax refl e)
 
   same-bounds : rangeOf (m .defaults) a ≡ rangeOf (m .defaults) b
   unfolding rangeOf

@@ -1,73 +1,88 @@
 -- Rule 6 over a whole model without errors: all members of a cluster end with one key for each detail.
-use Prim.Native.Nat.{ℕ, zero, suc, _+_, _*_, _≤_, _<_}
-use native.Mathlib.Decide.{ℕ-discrete}
+use Prim.Native.Nat.{ℕ, suc, _+_, _<_}
 use native.Mathlib.Omega.{arith}
 use mathlib.Core.Path.{_≡_, refl, sym, ap, _∙_}
-use mathlib.Core.Logic.{_≢_}
-use mathlib.Core.Bool.{true, false}
+use mathlib.Core.Bool.{Bool, true, false, not, _||_, false≢true}
 use mathlib.Core.List.{List, [], _∷_, List·Memᴰ}
-use mathlib.Core.Option.{Option·map}
-use lib.ListN.{length, getD}
-use Rattle.base.specs.Lists.{steps}
-use Rattle.oce_model.specs.Model.{Model, boundaryOutputCount, connectorCount}
+use mathlib.Core.Option.{Option, Option·map}
+use lib.ListN.{length}
+use lib.Dec.{eqb}
+use borrow.Author.Tests.{eqb-true, eqb-false, not-true}
+use Rattle.base.specs.Lists.{any}
+use Rattle.base.proofs.Lists.{and-parts, or-parts}
+use Rattle.oce_model.specs.Attributes.{Attrs}
+use Rattle.oce_model.specs.Model.{Model, boundaryOutputCount, connector, connectorCount}
+use Rattle.oce_diag.specs.Diagnostics.{hasError, subjectOf}
+use Rattle.unify.specs.Details.{detailNumber, kindOf, unifiedDetails}
 use Rattle.unify.specs.Clusters.{driven, isRoot}
-use Rattle.unify.specs.Slots.{Slots, bitOf, key, kindOf, slot, slotsOf, value}
-use Rattle.unify.specs.Unify.{conflict, declared, fill, fillRoot, filledTo, fills}
-use Rattle.moved.proofs.Clusters.{apart}
-use Rattle.unify.proofs.Fixed.{fill-fixed, fills-fixed, filledTo-fixed, put-kind, put-room}
+use Rattle.unify.specs.Slots.{Slots, key, slot, slotsOf, value}
+use Rattle.unify.specs.Unify.{conflict, conflictCode, declarations, detailsFaults, fill, fillDetails, fillFaults, fillRoot, filledSlots, filledTo}
+use Rattle.unify.specs.declared.Detail.{Detail}
+use Rattle.unify.proofs.Details.{among, distinct, number-same, place-same, unified-distinct}
+use Rattle.unify.proofs.Fixed.{fill-fixed, filledTo-fixed, put-kind, put-room}
 use Rattle.unify.proofs.Declared.{value-put}
-use Rattle.moved.proofs.OneDetail.{Open, Roomy, fill-key, keyOf}
+use Rattle.unify.proofs.Local.{between, fill-length, filledTo-length, filledTo-suc}
+use Rattle.unify.proofs.Slots.{slots-length}
+use Rattle.moved.proofs.NoError.{clean-append, clean-only}
+use Rattle.moved.proofs.Clusters.{apart}
+use Rattle.moved.proofs.OneDetail.{Open, Roomy, fill-key}
 use Rattle.moved.proofs.Stars.{Quiet, Stars}
-use Rattle.moved.proofs.Untouched.{between, filledTo-length, filledTo-suc, fills-length, slots-length}
 
--- ---- the details don't disturb each other
+-- ---- one cluster
 
--- a detail is known by its kind and its bit
-detailOf : ℕ → ℕ → ℕ
-detailOf k p = getD (2 ∷ 1 ∷ 0 ∷ 3 ∷ 4 ∷ []) p 0 + 2 * k
+-- what a detail that isn't among ds has, ds keep
+later-details : (ts : List (List ℕ)) (js : List ℕ) (d : Detail) (ds : List Detail) → among d ds ≡ false → (σ : Slots) (i : ℕ) → value d (slot (fillDetails ts js ds σ) i) ≡ value d (slot σ i)
+unfolding fillDetails among any
+later-details ts js d [] n σ i = refl
+later-details ts js d (e ∷ ds) n σ i =
+    let p = or-parts (eqb (detailNumber d) (detailNumber e)) (among d ds) n in
+    later-details ts js d ds (p .1) (fill ts js e σ) i
+    ∙ fill-fixed (value d) e (λ v. value-put d e v (λ k b. eqb-false (detailNumber d) (detailNumber e) (p .0) (place-same d e k b))) ts js σ i
 
-detail-is : (d : ℕ) → d < 6 → detailOf (kindOf (d + 1)) (bitOf (d + 1)) ≡ d + 1
-unfolding kindOf bitOf detailOf
-detail-is zero l = refl
-detail-is (suc zero) l = refl
-detail-is (suc (suc zero)) l = refl
-detail-is (suc (suc (suc zero))) l = refl
-detail-is (suc (suc (suc (suc zero)))) l = refl
-detail-is (suc (suc (suc (suc (suc zero))))) l = refl
-detail-is (suc (suc (suc (suc (suc (suc d)))))) l = absurd (omega arith)
+module _ (m : Model) (r : ℕ) (js : List ℕ) (i j : ℕ) (mi : List·Memᴰ i js) (mj : List·Memᴰ j js) where
+  -- after detail e, and others that leave it
+  head-key : (e : Detail) (ds : List Detail) → among e ds ≡ false → (σ : Slots) → conflict (m .texts) e (declarations e σ js) ≡ false → Roomy σ → Open e σ i → Open e σ j
+      → Option·map (key (m .texts) e) (value e (slot (fillDetails (m .texts) js ds (fill (m .texts) js e σ)) i))
+      ≡ Option·map (key (m .texts) e) (value e (slot (fillDetails (m .texts) js ds (fill (m .texts) js e σ)) j))
+  head-key e ds n σ c ρ o p =
+      let ts = m .texts in
+      let τ = fill (m .texts) js e σ in
+      ap (Option·map (key ts e)) (later-details ts js e ds n τ i) ∙ fill-key ts e js σ c i mi ρ o
+      ∙ sym (ap (Option·map (key ts e)) (later-details ts js e ds n τ j) ∙ fill-key ts e js σ c j mj ρ p)
 
-other-bit : (d e : ℕ) → d < 6 → e < 6 → d ≢ e → kindOf (d + 1) ≡ kindOf (e + 1) → bitOf (d + 1) ≢ bitOf (e + 1)
-other-bit d e k l n p q =
-    let s : d + 1 ≡ e + 1 = sym (detail-is d k) ∙ ap (λ x. detailOf x (bitOf (d + 1))) p ∙ ap (detailOf (kindOf (e + 1))) q ∙ detail-is e l in
-    n (omega arith)
+  -- two members of its kind have one key for each detail of a list that reports no error
+  cluster-key : (d : Detail) (ds : List Detail) → among d ds ≡ true → distinct ds ≡ true → (σ : Slots) → hasError (detailsFaults m r js ds σ) ≡ false → Roomy σ → Open d σ i → Open d σ j
+      → Option·map (key (m .texts) d) (value d (slot (fillDetails (m .texts) js ds σ) i)) ≡ Option·map (key (m .texts) d) (value d (slot (fillDetails (m .texts) js ds σ) j))
+  unfolding fillDetails detailsFaults fillFaults among any distinct
+  cluster-key d [] a u σ h ρ o p = absurd (false≢true a)
+  cluster-key d (e ∷ ds) a u σ h ρ o p = arm (eqb (detailNumber d) (detailNumber e)) refl a (cluster-key d ds)
+    where
+      parts : (not (among e ds) ≡ true) × (distinct ds ≡ true)
+      parts = and-parts (not (among e ds)) (distinct ds) u
 
-fills-suc : (m : Model) (js : List ℕ) (n : ℕ) (σ : Slots) → fills m js (suc n) σ ≡ fill m js (n + 1) (fills m js n σ)
-unfolding fills steps
-fills-suc m js n σ = refl
+      clean : (hasError (fillFaults m r js e σ) ≡ false) × (hasError (detailsFaults m r js ds (fill (m .texts) js e σ)) ≡ false)
+      clean = clean-append (fillFaults m r js e σ) (detailsFaults m r js ds (fill (m .texts) js e σ)) h
 
--- what detail d leaves, the details after it keep
-later-details : (m : Model) (js : List ℕ) (σ : Slots) (i d n : ℕ) → d < n → n ≤ 6 → value (d + 1) (slot (fills m js n σ) i) ≡ value (d + 1) (slot (fills m js (suc d) σ) i)
-later-details m js σ i d zero l k = absurd (omega arith)
-later-details m js σ i d (suc n) l k = arm (ℕ-discrete d n) (later-details m js σ i d n)
-  where
-    arm : Dec (d ≡ n) → (d < n → n ≤ 6 → value (d + 1) (slot (fills m js n σ) i) ≡ value (d + 1) (slot (fills m js (suc d) σ) i))
-        → value (d + 1) (slot (fills m js (suc n) σ) i) ≡ value (d + 1) (slot (fills m js (suc d) σ) i)
-    arm (yes e) ih = ap (λ x. value (d + 1) (slot (fills m js (suc x) σ) i)) (sym e)
-    arm (no e) ih =
-        ap (λ τ. value (d + 1) (slot τ i)) (fills-suc m js n σ)
-        ∙ fill-fixed (value (d + 1)) (n + 1) (λ v. value-put (d + 1) (n + 1) v (other-bit d n (omega arith) (omega arith) e)) m js (fills m js n σ) i
-        ∙ ih (omega arith) (omega arith)
+      agreed : conflict (m .texts) e (declarations e σ js) ≡ false
+      agreed = clean-only _ (conflictCode e) 6 (detailNumber e) (subjectOf (connector m r)) r (clean .0)
 
--- ---- one cluster, then all of them
+      room : Roomy (fill (m .texts) js e σ)
+      room = record { at = λ k l. rw (fill-fixed (λ a. length (a .nums)) e (put-room e) (m .texts) js σ k) (ρ .at k (rw (fill-length (m .texts) js e σ) at l)) }
 
-cluster-key : (m : Model) (js : List ℕ) (σ : Slots) (d : ℕ) → d < 6 → conflict m (d + 1) (declared (d + 1) (fills m js d σ) js) ≡ false → Roomy σ → (j : ℕ) → List·Memᴰ j js → j < length σ → slot σ j .kind ≡ kindOf (d + 1)
-    → Option·map (key m (d + 1)) (value (d + 1) (slot (fills m js 6 σ) j)) ≡ keyOf m (d + 1) (declared (d + 1) (fills m js d σ) js)
-cluster-key m js σ d l c ρ j mem i k =
-    let τ = fills m js d σ in
-    let room : Roomy τ = record { at = λ i l. rw (fills-fixed (λ a. length (a .nums)) put-room m js d σ i) (ρ .at i (rw (fills-length m js d σ) at l)) } in
-    let o : Open (d + 1) τ j = record { inside = rw (fills-length m js d σ) i; kind = fills-fixed (λ a. a .kind) put-kind m js d σ j ∙ k } in
-    ap (Option·map (key m (d + 1))) (later-details m js σ j d 6 l (omega arith) ∙ ap (λ τ. value (d + 1) (slot τ j)) (fills-suc m js d σ))
-    ∙ fill-key m (d + 1) js τ c j mem room o
+      open-at : (k : ℕ) → Open d σ k → Open d (fill (m .texts) js e σ) k
+      open-at k q = record { inside = rw (fill-length (m .texts) js e σ) (q .inside); kind = fill-fixed (λ a. a .kind) e (put-kind e) (m .texts) js σ k ∙ q .kind }
+
+      arm : (b : Bool) → eqb (detailNumber d) (detailNumber e) ≡ b → (b || among d ds) ≡ true
+          → (among d ds ≡ true → distinct ds ≡ true → (σ : Slots) → hasError (detailsFaults m r js ds σ) ≡ false → Roomy σ → Open d σ i → Open d σ j
+          → Option·map (key (m .texts) d) (value d (slot (fillDetails (m .texts) js ds σ) i)) ≡ Option·map (key (m .texts) d) (value d (slot (fillDetails (m .texts) js ds σ) j)))
+          → Option·map (key (m .texts) d) (value d (slot (fillDetails (m .texts) js ds (fill (m .texts) js e σ)) i))
+          ≡ Option·map (key (m .texts) d) (value d (slot (fillDetails (m .texts) js ds (fill (m .texts) js e σ)) j))
+      arm true q g ih =
+          let z : d ≡ e = number-same d e (eqb-true _ _ q) in
+          rw z (head-key e ds (not-true _ (parts .0)) σ agreed ρ (rw z at o) (rw z at p))
+      arm false q g ih = ih g (parts .1) (fill (m .texts) js e σ) (clean .1) room (open-at i o) (open-at j p)
+
+-- ---- all of them
 
 module _ (m : Model) (stars : Stars m) (quiet : Quiet m) (room : Roomy (slotsOf m)) where
   roomy : (n : ℕ) → Roomy (filledTo m n)
@@ -75,23 +90,21 @@ module _ (m : Model) (stars : Stars m) (quiet : Quiet m) (room : Roomy (slotsOf 
 
   -- what root r leaves in its cluster stays
   after-root : (r : ℕ) → r < connectorCount m → isRoot m r ≡ true → (j : ℕ) → List·Memᴰ j (r ∷ driven m r)
-      → slot (filledTo m (connectorCount m)) j ≡ slot (fills m (r ∷ driven m r) 6 (filledTo m r)) j
-  unfolding fillRoot
+      → slot (filledSlots m) j ≡ slot (fillDetails (m .texts) (r ∷ driven m r) unifiedDetails (filledTo m r)) j
+  unfolding fillRoot filledSlots
   after-root r l e j mem =
       between m (suc r) (connectorCount m) j l (λ q a b f g. let s : r ≡ q = apart m stars r q j e f mem g in omega arith)
       ∙ ap (λ σ. slot σ j) (filledTo-suc m r ∙ rw e)
 
   -- any two members of a kind have one key for each of the kind's details
-  pub one-key : (r : ℕ) → r < connectorCount m → isRoot m r ≡ true → (d : ℕ) → d < 6 → (i j : ℕ) → List·Memᴰ i (r ∷ driven m r) → List·Memᴰ j (r ∷ driven m r)
-      → i < connectorCount m + boundaryOutputCount m → j < connectorCount m + boundaryOutputCount m → slot (slotsOf m) i .kind ≡ kindOf (d + 1) → slot (slotsOf m) j .kind ≡ kindOf (d + 1)
-      → Option·map (key m (d + 1)) (value (d + 1) (slot (filledTo m (connectorCount m)) i)) ≡ Option·map (key m (d + 1)) (value (d + 1) (slot (filledTo m (connectorCount m)) j))
-  one-key r l e d k i j a b p q s t = side i a p s ∙ sym (side j b q t)
+  pub one-key : (r : ℕ) → r < connectorCount m → isRoot m r ≡ true → (d : Detail) → among d unifiedDetails ≡ true → (i j : ℕ) → List·Memᴰ i (r ∷ driven m r) → List·Memᴰ j (r ∷ driven m r)
+      → i < connectorCount m + boundaryOutputCount m → j < connectorCount m + boundaryOutputCount m → slot (slotsOf m) i .kind ≡ kindOf d → slot (slotsOf m) j .kind ≡ kindOf d
+      → Option·map (key (m .texts) d) (value d (slot (filledSlots m) i)) ≡ Option·map (key (m .texts) d) (value d (slot (filledSlots m) j))
+  one-key r l e d k i j a b p q s t =
+      let js = r ∷ driven m r in
+      let has : Attrs → Option (List ℕ) = λ x. Option·map (key (m .texts) d) (value d x) in
+      ap has (after-root r l e i a) ∙ cluster-key m r js i j a b d unifiedDetails k unified-distinct (filledTo m r) (quiet .agreed r l e) (roomy r) (open-at i p s) (open-at j q t)
+      ∙ sym (ap has (after-root r l e j b))
     where
-      js : List ℕ
-      js = r ∷ driven m r
-
-      side : (j : ℕ) → List·Memᴰ j js → j < connectorCount m + boundaryOutputCount m → slot (slotsOf m) j .kind ≡ kindOf (d + 1)
-          → Option·map (key m (d + 1)) (value (d + 1) (slot (filledTo m (connectorCount m)) j)) ≡ keyOf m (d + 1) (declared (d + 1) (fills m js d (filledTo m r)) js)
-      side j b q t =
-          ap (λ a. Option·map (key m (d + 1)) (value (d + 1) a)) (after-root r l e j b)
-          ∙ cluster-key m js (filledTo m r) d k (quiet .agreed r l e d k) (roomy r) j b (rw (filledTo-length m r) q) (filledTo-fixed (λ a. a .kind) put-kind m r j ∙ t)
+      open-at : (k : ℕ) → k < connectorCount m + boundaryOutputCount m → slot (slotsOf m) k .kind ≡ kindOf d → Open d (filledTo m r) k
+      open-at k l h = record { inside = rw (filledTo-length m r) l; kind = filledTo-fixed (λ a. a .kind) put-kind m r k ∙ h }

@@ -1,6 +1,6 @@
 -- What a report without errors says of the model. Rules 1 to 4: its connections form disjoint stars, each from an Out to Ins and boundary outputs of its type.
 -- Rules 5 and 6: no range is crossed, and nothing that a cluster declares conflicts.
-use Prim.Native.Nat.{ℕ, _+_, _≤_, _<_}
+use Prim.Native.Nat.{ℕ, _≤_, _<_}
 use mathlib.Core.Path.{_≡_, refl, sym, _∙_}
 use mathlib.Core.Bool.{Bool, true, false, cond, not, _&&_, true≢false}
 use mathlib.Core.List.{[], _∷_, _++_}
@@ -17,8 +17,9 @@ use Rattle.crossed_bounds.specs.CrossedBounds.{crossedFaults, connectorCrossed,
 use Rattle.crossed_bounds.specs.Ranges.{crossed, rangeOf}
 use Rattle.unify.specs.Clusters.{driven, isRoot, sound}
 use Rattle.unify.specs.Slots.{slot}
-use Rattle.unify.specs.Unify.{clusterFaults, conflict, conflictCode, declared, detailFaults, fillFaults, filledSlots, filledTo, fills, propagated, propagatedFaults, rootFaults, rule6}
-use Rattle.outcome.specs.Report.{allRules, report}
+use Rattle.unify.specs.Details.{unifiedDetails}
+use Rattle.unify.specs.Unify.{clusterFaults, clustersFaults, detailsFaults, filledSlots, filledTo, propagated, propagatedFaults, rootFaults, rule6}
+use Rattle.outcome.specs.Report.{report, rulesBefore6}
 use Rattle.moved.proofs.NoError.{clean-append, clean-each, clean-only}
 
 -- ---- rule 4
@@ -63,9 +64,8 @@ pub record Stars (m : Model) : Type 0 where
 -- what rules 5 and 6 then say of ranges and clusters
 pub record Quiet (m : Model) : Type 0 where
   pub range : (i : ℕ) → i < connectorCount m → crossed (rangeOf (m .defaults) (connector m i .attrs)) ≡ false
-  pub agreed : (r : ℕ) → r < connectorCount m → isRoot m r ≡ true → (d : ℕ) → d < 6
-      → conflict m (d + 1) (declared (d + 1) (fills m (r ∷ driven m r) d (filledTo m r)) (r ∷ driven m r)) ≡ false
-  pub rootRange : (r : ℕ) → r < connectorCount m → isRoot m r ≡ true → crossed (rangeOf (m .defaults) (slot (filledTo m (connectorCount m)) r)) ≡ false
+  pub agreed : (r : ℕ) → r < connectorCount m → isRoot m r ≡ true → hasError (detailsFaults m r (r ∷ driven m r) unifiedDetails (filledTo m r)) ≡ false
+  pub rootRange : (r : ℕ) → r < connectorCount m → isRoot m r ≡ true → crossed (rangeOf (m .defaults) (slot (filledSlots m) r)) ≡ false
 
 rule1-id : (m : Model) → hasError (rule1 m) ≡ false → (i : ℕ) → i < connectorCount m → connector m i .id ≡ i
 unfolding rule1 connectorFaults
@@ -108,34 +108,40 @@ rule5-range m h i l =
     let p = clean-append _ _ (clean-append _ _ (clean-append _ _ h .0) .0) in
     clean-only (crossed (rangeOf (m .defaults) (connector m i .attrs))) CrossedBounds 5 1 _ i (clean-each (connectorCount m) (connectorCrossed m) (p .0) i l)
 
-rule6-agreed : (m : Model) → hasError (rule6 m) ≡ false → (r : ℕ) → r < connectorCount m → isRoot m r ≡ true → (d : ℕ) → d < 6
-    → conflict m (d + 1) (declared (d + 1) (fills m (r ∷ driven m r) d (filledTo m r)) (r ∷ driven m r)) ≡ false
-unfolding rule6 rootFaults clusterFaults detailFaults fillFaults
-rule6-agreed m h r l e d k =
-    let js = r ∷ driven m r in
+clusters-agreed : (m : Model) → hasError (clustersFaults m) ≡ false → (r : ℕ) → r < connectorCount m → isRoot m r ≡ true
+    → hasError (detailsFaults m r (r ∷ driven m r) unifiedDetails (filledTo m r)) ≡ false
+unfolding clustersFaults rootFaults clusterFaults
+clusters-agreed m h r l e =
     let g = rw e at (clean-each (connectorCount m) (λ r. rootFaults m r (filledTo m r)) h r l) in
-    let p = clean-append _ _ g in
-    clean-only _ (conflictCode (d + 1)) 6 (d + 1) _ r (clean-each 6 (detailFaults m r js (filledTo m r)) (p .0) d k)
+    clean-append _ _ g .0
 
-propagated-range : (m : Model) → hasError (propagated m) ≡ false → (r : ℕ) → r < connectorCount m → isRoot m r ≡ true → crossed (rangeOf (m .defaults) (slot (filledTo m (connectorCount m)) r)) ≡ false
-unfolding propagated propagatedFaults filledSlots
+propagated-range : (m : Model) → hasError (propagated m) ≡ false → (r : ℕ) → r < connectorCount m → isRoot m r ≡ true → crossed (rangeOf (m .defaults) (slot (filledSlots m) r)) ≡ false
+unfolding propagated propagatedFaults
 propagated-range m h r l e =
-    let σ = filledTo m (connectorCount m) in
+    let σ = filledSlots m in
     let g = clean-only (isRoot m r && crossed (rangeOf (m .defaults) (slot σ r))) CrossedBounds 6 8 _ r (clean-each (connectorCount m) (propagatedFaults m σ) h r l) in
     rw e at g
 
-all-clean : (m : Model) → hasError (report m) ≡ false → (hasError (allRules m) ≡ false) × (hasError (propagated m) ≡ false)
-unfolding report
-all-clean m h = arm (hasError (allRules m)) refl h
+-- where no rule before it found an error, rule 6 without one has asked 6.8
+rule6-clean : (m : Model) (failed : Bool) → failed ≡ false → hasError (rule6 m failed) ≡ false → (hasError (clustersFaults m) ≡ false) × (hasError (propagated m) ≡ false)
+unfolding rule6
+rule6-clean m failed e h = arm (hasError (clustersFaults m)) refl (rw e at h)
   where
-    arm : (b : Bool) → hasError (allRules m) ≡ b → hasError (cond b (allRules m) (allRules m ++ propagated m)) ≡ false → (hasError (allRules m) ≡ false) × (hasError (propagated m) ≡ false)
-    arm true e g = absurd (true≢false (sym e ∙ g))
-    arm false e g = clean-append (allRules m) (propagated m) g
+    arm : (b : Bool) → hasError (clustersFaults m) ≡ b → hasError (cond b (clustersFaults m) (clustersFaults m ++ propagated m)) ≡ false → (hasError (clustersFaults m) ≡ false) × (hasError (propagated m) ≡ false)
+    arm true q g = absurd (true≢false (sym q ∙ g))
+    arm false q g = clean-append (clustersFaults m) (propagated m) g
 
 module _ (m : Model) (h : hasError (report m) ≡ false) where
+  parts : (hasError (rulesBefore6 m) ≡ false) × (hasError (rule6 m (hasError (rulesBefore6 m))) ≡ false)
+  unfolding report
+  parts = clean-append (rulesBefore6 m) (rule6 m (hasError (rulesBefore6 m))) h
+
+  sixth : (hasError (clustersFaults m) ≡ false) × (hasError (propagated m) ≡ false)
+  sixth = rule6-clean m (hasError (rulesBefore6 m)) (parts .0) (parts .1)
+
   first-five : hasError (rule1 m ++ rule2 m ++ rule3 m ++ rule4 m ++ rule5 m) ≡ false
-  unfolding allRules
-  first-five = clean-append _ (rule6 m) (all-clean m h .0) .0
+  unfolding rulesBefore6
+  first-five = parts .0
 
   first-four : hasError (rule1 m ++ rule2 m ++ rule3 m ++ rule4 m) ≡ false
   first-four = clean-append _ (rule5 m) first-five .0
@@ -145,10 +151,6 @@ module _ (m : Model) (h : hasError (report m) ≡ false) where
 
   first-two : hasError (rule1 m ++ rule2 m) ≡ false
   first-two = clean-append _ (rule3 m) first-three .0
-
-  sixth : hasError (rule6 m) ≡ false
-  unfolding allRules
-  sixth = clean-append (rule1 m ++ rule2 m ++ rule3 m ++ rule4 m ++ rule5 m) (rule6 m) (all-clean m h .0) .1
 
   pub stars : Stars m
   stars = record {
@@ -160,6 +162,6 @@ module _ (m : Model) (h : hasError (report m) ≡ false) where
   pub quiet : Quiet m
   quiet = record {
     range = rule5-range m (clean-append (rule1 m ++ rule2 m ++ rule3 m ++ rule4 m) (rule5 m) first-five .1);
-    agreed = rule6-agreed m sixth;
-    rootRange = propagated-range m (all-clean m h .1);
+    agreed = clusters-agreed m (sixth .0);
+    rootRange = propagated-range m (sixth .1);
   }

@@ -10,6 +10,7 @@ use Rattle.oce_model.specs.Attributes.{attrsAt, attrsBytes}
 use Rattle.oce_model.specs.Model.{Model, boundaryOutputAt, boundaryOutputCount, connectorAt, connectorCount, modelOf}
 use Rattle.oce_diag.specs.Diagnostics.{hasError}
 use Rattle.unify.specs.Slots.{slot, slotsOf}
+use Rattle.unify.proofs.Slots.{slot-connector, slot-out}
 use Rattle.outcome.specs.Answer.{reportOf}
 use Rattle.outcome.specs.Filled.{filledOf, withSlots}
 use Rattle.outcome.specs.Report.{finalSlots}
@@ -20,7 +21,6 @@ use Rattle.oce_model.proofs.Attributes.{attrs-own}
 use Rattle.oce_model.proofs.Fields.{nth}
 use Rattle.moved.proofs.Refilled.{withSlots-is}
 use Rattle.moved.proofs.Regions.{connectorSlots, offset, offset-connector, offset-out, outputSlots, slots-fit}
-use Rattle.moved.proofs.Widths.{slot-connector, slot-out}
 
 module _ (s : List ℕ) (bytes : Bytes s) where
   con-at : (at : ℕ) → connectorAt s at .attrs ≡ attrsAt s (at + connectorAttrs)

@@ -1,5 +1,5 @@
 -- Attributes that refusals 6 and 8 find no fault in: those of an accepted image are such, and rule 6 keeps them so.
-use Prim.Native.Nat.{ℕ, zero, suc, _+_, _^_, _≤_, _<_}
+use Prim.Native.Nat.{ℕ, zero, suc, _+_, _^_, _<_}
 use native.Mathlib.Decide.{ℕ-discrete, decLt}
 use native.Mathlib.Omega.{arith}
 use mathlib.Core.Path.{_≡_, refl, sym, _∙_}
@@ -18,15 +18,17 @@ use Rattle.oce_model.specs.Image.{fields, ofTag}
 use Rattle.oce_model.specs.Model.{blockAt, boundaryInputAt, boundaryOutputAt, connectorAt, modelOf}
 use Rattle.oce_model.specs.Refusals.{attrsOffset, badAttrs, badConnector, badContents, badHead, badOrNone, badReference, badTextNumbers, onAttrs, stray}
 use Rattle.oce_model.specs.declared.Field.{Field}
-use Rattle.unify.specs.Slots.{bitOf, kindOf, put, putAt, slotsOf, value}
+use Rattle.unify.specs.Details.{bitOf, kindOf}
+use Rattle.unify.specs.Slots.{put, putAt, slotsOf, value}
 use Rattle.unify.specs.Unify.{filledTo}
+use Rattle.unify.specs.declared.Detail.{Detail}
+use Rattle.unify.proofs.Details.{bitOf-lt, integer-bits, kindOf-le}
 use Rattle.base.proofs.Lists.{or-parts}
 use Rattle.numbers.proofs.Bits.{bit-other, bit-same}
 use Rattle.oce_model.proofs.Accepted.{Accepted, connectors-length, outputs-length}
 use Rattle.oce_model.proofs.Fields.{none-mem, nth, nth-mem, nth-tag}
 use Rattle.moved.proofs.Invariants.{All, filledTo-keeps}
 use Rattle.unify.proofs.Declared.{unmarked}
-use Rattle.moved.proofs.Kept.{bitOf-lt}
 use Rattle.moved.proofs.Widths.{all-slots}
 
 -- each part of the two refusals' tests; n is the number of texts
@@ -158,31 +160,7 @@ well-plain n a w e =
 abbrev pub Ok : ℕ → ℕ → ℕ → Type 0
 Ok n p v = p < 3 → v < n
 
-integer-bits : (d : ℕ) → kindOf d ≡ 1 → (3 ≤ bitOf d) × (bitOf d ≤ 4)
-unfolding kindOf bitOf
-integer-bits zero e = absurd (omega arith)
-integer-bits (suc zero) e = absurd (omega arith)
-integer-bits (suc (suc zero)) e = absurd (omega arith)
-integer-bits (suc (suc (suc zero))) e = absurd (omega arith)
-integer-bits (suc (suc (suc (suc zero)))) e = absurd (omega arith)
-integer-bits (suc (suc (suc (suc (suc zero))))) e = (omega arith, omega arith)
-integer-bits (suc (suc (suc (suc (suc (suc zero)))))) e = (omega arith, omega arith)
-integer-bits (suc (suc (suc (suc (suc (suc (suc zero))))))) e = absurd (omega arith)
-integer-bits (suc (suc (suc (suc (suc (suc (suc (suc d)))))))) e = absurd (omega arith)
-
-kind-lt : (d : ℕ) → kindOf d ≤ 1
-unfolding kindOf
-kind-lt zero = omega arith
-kind-lt (suc zero) = omega arith
-kind-lt (suc (suc zero)) = omega arith
-kind-lt (suc (suc (suc zero))) = omega arith
-kind-lt (suc (suc (suc (suc zero)))) = omega arith
-kind-lt (suc (suc (suc (suc (suc zero))))) = omega arith
-kind-lt (suc (suc (suc (suc (suc (suc zero)))))) = omega arith
-kind-lt (suc (suc (suc (suc (suc (suc (suc zero))))))) = omega arith
-kind-lt (suc (suc (suc (suc (suc (suc (suc (suc d)))))))) = omega arith
-
-module _ (n d v : ℕ) (a : Attrs) (ok : Ok n (bitOf d) v) (w : Well n a) (same : a .kind ≡ kindOf d) (free : declaredAt a (bitOf d) ≡ none) where
+module _ (n : ℕ) (d : Detail) (v : ℕ) (a : Attrs) (ok : Ok n (bitOf d) v) (w : Well n a) (same : a .kind ≡ kindOf d) (free : declaredAt a (bitOf d) ≡ none) where
   p : ℕ
   p = bitOf d
 
@@ -200,7 +178,7 @@ module _ (n d v : ℕ) (a : Attrs) (ok : Ok n (bitOf d) v) (w : Well n a) (same 
     kind = w .kind;
     unbounded = rw (other 7 (omega (arith, bitOf-lt d)), other 6 (omega (arith, bitOf-lt d))) (w .unbounded);
     integer = int (ℕ-discrete (a .kind) 1);
-    others = rw (le-ltb 1 (a .kind) (omega (arith, kind-lt d)));
+    others = rw (le-ltb 1 (a .kind) (omega (arith, kindOf-le d)));
     unset = λ q l. unset q l (ℕ-discrete q p);
     texts = λ q l. texts q l (ℕ-discrete q p) (decLt p (length (a .nums)));
   }
@@ -225,7 +203,7 @@ module _ (n d v : ℕ) (a : Attrs) (ok : Ok n (bitOf d) v) (w : Well n a) (same 
           let z : v < n = ok (omega arith) in
           rw (e, own, set-out (a .nums) p v (omega arith), List·getD-eq-default (a .nums) 0 {n = p} (omega arith)) (lt-leb n 0 (omega arith))
 
-pub put-well : (n d v : ℕ) (a : Attrs) → Ok n (bitOf d) v → Well n a → Well n (put d v a)
+pub put-well : (n : ℕ) (d : Detail) (v : ℕ) (a : Attrs) → Ok n (bitOf d) v → Well n a → Well n (put d v a)
 unfolding put
 put-well n d v a ok w = arm (eqb (a .kind) (kindOf d)) refl (declaredAt a (bitOf d)) refl
   where
@@ -234,7 +212,7 @@ put-well n d v a ok w = arm (eqb (a .kind) (kindOf d)) refl (declaredAt a (bitOf
     arm true e (some u) q = w
     arm true e none q = declareAt-well n d v a ok w (eqb-true _ _ e) q
 
-pub value-text : (n d v : ℕ) (a : Attrs) → Well n a → value d a ≡ some v → Ok n (bitOf d) v
+pub value-text : (n : ℕ) (d : Detail) (v : ℕ) (a : Attrs) → Well n a → value d a ≡ some v → Ok n (bitOf d) v
 unfolding value declaredAt
 value-text n d v a w h l = arm (eqb (a .kind) (kindOf d)) (bit (a .marks) (bitOf d)) h (w .texts (bitOf d) l)
   where

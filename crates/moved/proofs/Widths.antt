@@ -4,44 +4,30 @@ use native.Mathlib.Decide.{ℕ-discrete, decLt}
 use native.Mathlib.Omega.{arith}
 use mathlib.Core.Path.{_≡_, refl, ap, _∙_}
 use mathlib.Core.Bool.{Bool, true, false, cond}
-use mathlib.Core.List.{List, map}
+use mathlib.Core.List.{List}
 use mathlib.Core.Option.{Option, none, some, Option·none-ne-some}
-use lib.ListN.{length, getD, set, length-map, List·getD-append, List·getD-map, List·getD-eq-default}
-use lib.Seq.{getD-set-same, getD-set-other, set-out, getD-append-add}
+use lib.ListN.{length, getD, set, List·getD-eq-default}
+use lib.Seq.{getD-set-same, getD-set-other, set-out}
 use lib.Dec.{eqb}
 use Rattle.numbers.specs.Bytes.{bit}
 use Rattle.oce_model.specs.Format.{boundaryOutputTag, connectorAttrs, connectorTag}
 use Rattle.oce_model.specs.Attributes.{Attrs, attrsAt, declareAt, declaredAt, marked, noAttrs, num}
-use Rattle.oce_model.specs.Model.{BoundaryOutput, Connector, Model, boundaryOutput, boundaryOutputAt, boundaryOutputCount, connector, connectorAt, connectorCount, modelOf, noBoundaryOutput, noConnector}
-use Rattle.unify.specs.Slots.{Slots, bitOf, kindOf, put, putAt, slot, slotsOf, value}
+use Rattle.oce_model.specs.Model.{Model, boundaryOutputAt, boundaryOutputCount, connectorAt, connectorCount, modelOf}
+use Rattle.unify.specs.Details.{bitOf, kindOf}
+use Rattle.unify.specs.Slots.{Slots, put, putAt, slot, slotsOf, value}
 use Rattle.unify.specs.Unify.{filledTo}
+use Rattle.unify.specs.declared.Detail.{Detail}
+use Rattle.unify.proofs.Slots.{slot-connector, slot-out, slots-length}
 use Rattle.moved.proofs.Bytes.{Bytes}
 use Rattle.oce_model.proofs.Accepted.{connector-is, output-is}
 use Rattle.oce_model.proofs.Attributes.{Caps, at-caps, cap, no-caps}
 use Rattle.oce_model.proofs.Fields.{nth}
 use Rattle.moved.proofs.Invariants.{All, filledTo-keeps}
 use Rattle.moved.proofs.OneDetail.{Roomy}
-use Rattle.moved.proofs.Untouched.{slots-length}
-
--- ---- the slots of a model are its connectors' and boundary outputs' attributes
-
-module _ (m : Model) where
-  pub slot-connector : (i : ℕ) → i < connectorCount m → slot (slotsOf m) i ≡ connector m i .attrs
-  unfolding slot slotsOf connector noConnector
-  slot-connector i l =
-      let k : i < length (map (λ (c : Connector). c .attrs) (m .connectors)) = rw length-map l in
-      List·getD-append (map (λ (c : Connector). c .attrs) (m .connectors)) (map (λ (b : BoundaryOutput). b .attrs) (m .boundaryOutputs)) noAttrs i k
-      ∙ List·getD-map (λ (c : Connector). c .attrs) (m .connectors) i noConnector
-
-  pub slot-out : (i : ℕ) → slot (slotsOf m) (connectorCount m + i) ≡ boundaryOutput m i .attrs
-  unfolding slot slotsOf boundaryOutput noBoundaryOutput
-  slot-out i =
-      (rw length-map at (getD-append-add (map (λ (c : Connector). c .attrs) (m .connectors)) (map (λ (b : BoundaryOutput). b .attrs) (m .boundaryOutputs)) i noAttrs))
-      ∙ List·getD-map (λ (b : BoundaryOutput). b .attrs) (m .boundaryOutputs) i noBoundaryOutput
 
 -- ---- each number has its width
 
-put-caps : (d v : ℕ) (a : Attrs) → v < cap (bitOf d) → Caps a → Caps (put d v a)
+put-caps : (d : Detail) (v : ℕ) (a : Attrs) → v < cap (bitOf d) → Caps a → Caps (put d v a)
 unfolding put declareAt
 put-caps d v a l c = arm (eqb (a .kind) (kindOf d)) (declaredAt a (bitOf d))
   where
@@ -61,7 +47,7 @@ put-caps d v a l c = arm (eqb (a .kind) (kindOf d)) (declaredAt a (bitOf d))
 abbrev pub AllCaps : Slots → Type 0
 AllCaps = All Caps
 
-value-cap : (d v : ℕ) (a : Attrs) → Caps a → value d a ≡ some v → v < cap (bitOf d)
+value-cap : (d : Detail) (v : ℕ) (a : Attrs) → Caps a → value d a ≡ some v → v < cap (bitOf d)
 unfolding value declaredAt
 value-cap d v a c h = arm (eqb (a .kind) (kindOf d)) (bit (a .marks) (bitOf d)) h
   where

@@ -2,7 +2,7 @@
 use Prim.Native.Nat.{ℕ, _+_, _-_, _*_, _<_, _≤_}
 use native.Mathlib.Omega.{arith}
 use mathlib.Core.Path.{_≡_, refl}
-use mathlib.Core.Bool.{Bool, true, false, cond, not, _&&_}
+use mathlib.Core.Bool.{Bool, true, false, cond, not, _&&_, _||_}
 use mathlib.Core.List.{List, [], _∷_, List·Memᴰ·head, List·Memᴰ·tail}
 use mathlib.Core.Option.{none}
 use lib.ListN.{length, getD}
@@ -25,10 +25,13 @@ use Rattle.structural.specs.Structural.{portFaults, blockFaults, connectorFault
 use Rattle.crossed_bounds.specs.Ranges.{rangeOf, crossed, combined}
 use Rattle.crossed_bounds.specs.Groups.{Group, members}
 use Rattle.crossed_bounds.specs.CrossedBounds.{crossedFaults, connectorCrossed, inputCrossed, outputCrossed, connectorMembers, inputMembers, memberIri, memberExternal, memberKey, memberRanges, joins, groups, groupFaults, groupsFaults, rule5}
-use Rattle.unify.specs.Slots.{Slots, slot, unifiedDetails, displayDetail}
+use Rattle.unify.specs.Details.{detailNumber, unifiedDetails}
+use Rattle.unify.specs.Slots.{Slots, slot}
 use Rattle.unify.specs.Clusters.{driven, isRoot}
-use Rattle.unify.specs.Unify.{declared, conflict, conflictCode, fillFaults, displayFaults, detailFaults, fills, clusterFaults, rootFaults, filledTo, filledSlots, rule6, propagatedFaults, propagated}
-use Rattle.outcome.specs.Report.{allRules, report}
+use Rattle.unify.specs.Unify.{declarations, conflict, conflictCode, fill, fillFaults, displayFaults, detailsFaults, fillDetails, clusterFaults, rootFaults, filledTo, filledSlots, clustersFaults, propagatedFaults, propagated, rule6}
+use Rattle.unify.specs.declared.Detail.{Detail}
+use Rattle.unify.specs.declared.Detail.the-variants.{DisplayUnit}
+use Rattle.outcome.specs.Report.{report, rulesBefore6}
 use Rattle.outcome.specs.Answer.{reportOf}
 use Rattle.oce_diag.specs.Decoded.{AllFitting}
 use Rattle.printed.specs.Bounded.{Bounded}
@@ -201,26 +204,31 @@ module _ (m : Model) (b : Bounded m) where
 
   -- ---- rule 6
   module _ (r : ℕ) (js : List ℕ) (l : r < wordRange) where
-    fill-fits : (d : ℕ) (σ : Slots) → AllFitting (fillFaults m r js d σ)
+    fill-fits : (d : Detail) (σ : Slots) → AllFitting (fillFaults m r js d σ)
     unfolding fillFaults
-    fill-fits d σ = all-only (conflict m d (declared d σ js)) (fits Error (conflictCode d) 6 d (subjectOf (connector m r)) r (of-connector r) l)
+    fill-fits d σ = all-only (conflict (m .texts) d (declarations d σ js)) (fits Error (conflictCode d) 6 (detailNumber d) (subjectOf (connector m r)) r (of-connector r) l)
 
     display-fits : (σ : Slots) → AllFitting (displayFaults m r js σ)
     unfolding displayFaults
     display-fits σ =
-        all-only (conflict m displayDetail (declared displayDetail σ js)) (fits Warning DisplayUnitDivergence 6 displayDetail (subjectOf (connector m r)) r (of-connector r) l)
+        all-only (conflict (m .texts) DisplayUnit (declarations DisplayUnit σ js)) (fits Warning DisplayUnitDivergence 6 (detailNumber DisplayUnit) (subjectOf (connector m r)) r (of-connector r) l)
+
+    details-fit : (ds : List Detail) (σ : Slots) → AllFitting (detailsFaults m r js ds σ)
+    unfolding detailsFaults
+    details-fit [] σ = all-none
+    details-fit (d ∷ ds) σ = all-both (fill-fits d σ) (details-fit ds (fill (m .texts) js d σ))
 
     cluster-fits : (σ : Slots) → AllFitting (clusterFaults m r js σ)
-    unfolding clusterFaults detailFaults
-    cluster-fits σ = all-both (all-each unifiedDetails (detailFaults m r js σ) (λ d h. fill-fits (d + 1) (fills m js d σ))) (display-fits (fills m js unifiedDetails σ))
+    unfolding clusterFaults
+    cluster-fits σ = all-both (details-fit unifiedDetails σ) (display-fits (fillDetails (m .texts) js unifiedDetails σ))
 
   root-fits : (r : ℕ) (σ : Slots) → r < wordRange → AllFitting (rootFaults m r σ)
   unfolding rootFaults
   root-fits r σ l = all-cond (isRoot m r) (cluster-fits r (r ∷ driven m r) l σ) all-none
 
-  rule6-fits : AllFitting (rule6 m)
-  unfolding rule6
-  rule6-fits = let n = few-connectors in all-each (connectorCount m) (λ r. rootFaults m r (filledTo m r)) (λ r l. root-fits r (filledTo m r) (omega arith))
+  clusters-fit : AllFitting (clustersFaults m)
+  unfolding clustersFaults
+  clusters-fit = let n = few-connectors in all-each (connectorCount m) (λ r. rootFaults m r (filledTo m r)) (λ r l. root-fits r (filledTo m r) (omega arith))
 
   tested-fits : (σ : Slots) (r : ℕ) → r < wordRange → AllFitting (propagatedFaults m σ r)
   unfolding propagatedFaults
@@ -230,14 +238,18 @@ module _ (m : Model) (b : Bounded m) where
   unfolding propagated
   propagated-fits = let n = few-connectors in all-each (connectorCount m) (propagatedFaults m (filledSlots m)) (λ r l. tested-fits (filledSlots m) r (omega arith))
 
+  rule6-fits : (failed : Bool) → AllFitting (rule6 m failed)
+  unfolding rule6
+  rule6-fits failed = all-cond (failed || hasError (clustersFaults m)) clusters-fit (all-both clusters-fit propagated-fits)
+
   -- ---- all of them
-  all-fit : AllFitting (allRules m)
-  unfolding allRules
-  all-fit = all-both (all-both (all-both (all-both (all-both rule1-fits rule2-fits) rule3-fits) rule4-fits) rule5-fits) rule6-fits
+  before-fit : AllFitting (rulesBefore6 m)
+  unfolding rulesBefore6
+  before-fit = all-both (all-both (all-both (all-both rule1-fits rule2-fits) rule3-fits) rule4-fits) rule5-fits
 
   report-fits : AllFitting (report m)
   unfolding report
-  report-fits = all-cond (hasError (allRules m)) all-fit (all-both all-fit propagated-fits)
+  report-fits = all-both before-fit (rule6-fits (hasError (rulesBefore6 m)))
 
 -- the report of an accepted image
 pub reportOf-fits : (s : List ℕ) → ((i : ℕ) → byte s i < byteRange) → refusal s ≡ none → AllFitting (reportOf s)

@@ -1,20 +1,20 @@
 -- The report of a model from the runs that make it.
 use Prim.Native.Nat.{ℕ, zero, suc, _+_, _*_, _<_, _≤_}
 use native.Mathlib.Nat.{zero-add}
+use native.Mathlib.Decide.{ℕ-discrete}
 use native.Mathlib.Omega.{arith}
 use mathlib.Core.Path.{_≡_, refl, sym, ap, _∙_}
-use mathlib.Core.Bool.{Bool, true, false, cond}
 use mathlib.Core.List.{List, _++_, append-assoc}
-use lib.Dec.{eqb}
+use lib.Dec.{ltb}
 use lib.ListN.{length, getD, replicate, length-replicate}
-use borrow.Author.Tests.{eq-eqb, ne-eqb, eqb-true, eqb-false}
+use borrow.Author.Tests.{lt-ltb, le-ltb}
 use Rattle.oce_model.specs.Format.{mostExternalInputs}
-use Rattle.oce_model.specs.Model.{Model, modelOf, connectorCount}
+use Rattle.oce_model.specs.Model.{Model, modelOf}
 use Rattle.oce_diag.specs.Diagnostics.{hasError, errors}
 use Rattle.oce_diag.specs.declared.Diagnostic.{Diagnostic}
 use Rattle.oce_diag.specs.declared.Counted.{Counted}
 use Rattle.oce_diag.specs.Putting.{Adds, Put}
-use Rattle.oce_diag.proofs.Diagnostics.{errors-append, no-errors, some-error}
+use Rattle.oce_diag.proofs.Diagnostics.{no-errors, some-error}
 use Rattle.oce_diag.proofs.Putting.{put-then}
 use Rattle.image_accept.specs.Layout.{Laid}
 use Rattle.image_accept.specs.declared.Layout.{Layout}
@@ -24,45 +24,39 @@ use Rattle.image_records.proofs.Laws.{connectors-few, connectors-counted, exter
 use Rattle.unify_slots.specs.Table.{slotCount}
 use Rattle.structural.specs.Structural.{rule1, rule2, rule3, rule4}
 use Rattle.crossed_bounds.specs.CrossedBounds.{rule5}
-use Rattle.unify.specs.Unify.{rule6, propagated}
-use Rattle.unify_clusters.specs.Unified.{wholeRule6, Unified}
-use Rattle.outcome.specs.Report.{allRules, report}
-use Rattle.rules.specs.Ran.{fewRecords, none, firstFive, mostFirstFive, mostDiagnostics, Ran}
+use Rattle.unify.specs.Unify.{rule6}
+use Rattle.unify_clusters.specs.Unified.{Unified}
+use Rattle.outcome.specs.Report.{report, rulesBefore6}
+use Rattle.rules.specs.Ran.{fewRecords, none, mostBefore6, Ran}
 
-all-is : (m : Model) → firstFive m ++ rule6 m ≡ allRules m
-unfolding firstFive allRules
-all-is m = ap (λ l. l ++ rule5 m ++ rule6 m) (sym (append-assoc (rule1 m ++ rule2 m) (rule3 m) (rule4 m)))
+-- rules 1 and 2, 3 and 4, and 5 are the rules before rule 6
+before-is : (m : Model) → (rule1 m ++ rule2 m) ++ (rule3 m ++ rule4 m) ++ rule5 m ≡ rulesBefore6 m
+unfolding rulesBefore6
+before-is m = ap (λ l. l ++ rule5 m) (sym (append-assoc (rule1 m ++ rule2 m) (rule3 m) (rule4 m)))
 
--- the first five and the whole of rule 6 are the report
-report-is : (m : Model) → firstFive m ++ wholeRule6 m (errors (firstFive m)) ≡ report m
-unfolding report wholeRule6
-report-is m = arm (eqb (errors (firstFive m) + errors (rule6 m)) 0) refl
+module _ (s : List ℕ) {b b′ b″ b‴ : List ℕ} {c c′ c″ c‴ : Counted} where
+  pub ran-before : Put b c (rule1 (modelOf s) ++ rule2 (modelOf s)) b′ c′ → Put b′ c′ (rule3 (modelOf s) ++ rule4 (modelOf s)) b″ c″ → Put b″ c″ (rule5 (modelOf s)) b‴ c‴
+      → Put b c (rulesBefore6 (modelOf s)) b‴ c‴
+  ran-before p q r = rw (← (before-is (modelOf s))) (put-then (put-then p q) r)
+
+-- a list holds an error exactly if errors are counted in it
+counted-errors : (ds : List Diagnostic) → ltb 0 (errors ds) ≡ hasError ds
+counted-errors ds = arm (ℕ-discrete (errors ds) 0)
   where
-    sum : errors (allRules m) ≡ errors (firstFive m) + errors (rule6 m)
-    sum = ap errors (sym (all-is m)) ∙ errors-append (firstFive m) (rule6 m)
-
-    arm : (b : Bool) → eqb (errors (firstFive m) + errors (rule6 m)) 0 ≡ b
-        → firstFive m ++ cond b (rule6 m ++ propagated m) (rule6 m) ≡ cond (hasError (allRules m)) (allRules m) (allRules m ++ propagated m)
-    arm true e =
-        let z : errors (allRules m) ≡ 0 = sum ∙ eqb-true _ 0 e in
-        rw (no-errors (allRules m) z) (sym (append-assoc (firstFive m) (rule6 m) (propagated m)) ∙ ap (λ l. l ++ propagated m) (all-is m))
-    arm false e =
-        let n = eqb-false (errors (firstFive m) + errors (rule6 m)) 0 e in
-        let z : 0 < errors (allRules m) = (let s = sum in positive (errors (allRules m)) (λ q. n (sym s ∙ q))) in
-        rw (some-error (allRules m) z) (all-is m)
-      where
-        positive : (k : ℕ) → (k ≡ 0 → ⊥) → 0 < k
-        positive k h = omega arith
+    arm : Dec (errors ds ≡ 0) → ltb 0 (errors ds) ≡ hasError ds
+    arm (yes e) = rw (le-ltb 0 (errors ds) (omega arith), no-errors ds e)
+    arm (no n) = rw (lt-ltb 0 (errors ds) (omega arith), some-error ds (omega arith))
 
 -- a run from nothing counted
-ran-put : (m : Model) {b b′ b″ : List ℕ} {c′ c″ : Counted} → Put b none (firstFive m) b′ c′ → Put b′ c′ (wholeRule6 m (c′ .errors)) b″ c″ → Put b none (report m) b″ c″
+ran-put : (m : Model) {b b′ b″ : List ℕ} {c′ c″ : Counted} → Put b none (rulesBefore6 m) b′ c′ → Put b′ c′ (rule6 m (ltb 0 (c′ .errors))) b″ c″ → Put b none (report m) b″ c″
+unfolding report
 ran-put m {b} {b′} {b″} {c′} {c″} p q =
-    let f : c′ .errors ≡ errors (firstFive m) = p .errors ∙ zero-add (errors (firstFive m)) in
-    let r : Put b′ c′ (wholeRule6 m (errors (firstFive m))) b″ c″ = rw (← f) q in
-    rw (← (report-is m)) (put-then p r)
+    let f : c′ .errors ≡ errors (rulesBefore6 m) = p .errors ∙ zero-add (errors (rulesBefore6 m)) in
+    let g : ltb 0 (c′ .errors) ≡ hasError (rulesBefore6 m) = ap (ltb 0) f ∙ counted-errors (rulesBefore6 m) in
+    put-then p (rw g at q)
 
 module _ {s : List ℕ} {l : Layout} (h : Laid s l) where
-  pub ran : {table b b′ b″ : List ℕ} {c′ c″ : Counted} → Put b none (firstFive (modelOf s)) b′ c′ → Adds mostFirstFive none c′
+  pub ran : {table b b′ b″ : List ℕ} {c′ c″ : Counted} → Put b none (rulesBefore6 (modelOf s)) b′ c′ → Adds mostBefore6 none c′
       → Unified (modelOf s) (slotCount (modelOf s)) table b′ c′ b″ c″ → Ran (modelOf s) table b b″ c″
   ran p few u = record {
     slots = u .slots;

@@ -1,19 +1,16 @@
 -- What a run over all rules gives.
 use Prim.Native.Nat.{ℕ, _+_, _*_, _≤_}
 use mathlib.Core.Path.{_≡_}
-use mathlib.Core.List.{List, _++_}
+use mathlib.Core.List.{List}
 use Rattle.oce_model.specs.Format.{textTag, blockTag, mostConnectors, mostConnections, mostBoundaryOutputs}
 use Rattle.oce_model.specs.Model.{Model, modelOf}
 use Rattle.image_accept.specs.Layout.{Laid, Tabled}
 use Rattle.image_accept.specs.declared.Layout.{Layout}
-use Rattle.oce_diag.specs.declared.Diagnostic.{Diagnostic}
 use Rattle.oce_diag.specs.declared.Counted.{Counted}
 use Rattle.oce_diag.specs.Putting.{total, Put}
-use Rattle.structural.specs.Structural.{rule1, rule2, rule3, rule4}
 use Rattle.structural_arena_ids.specs.PerRecord.{mostArenaFaults}
 use Rattle.structural_wiring.specs.PerRecord.{mostOutputFaults, mostConnectionFaults}
 use Rattle.structural_assignment.specs.PerRecord.{mostAssignmentFaults}
-use Rattle.crossed_bounds.specs.CrossedBounds.{rule5}
 use Rattle.crossed_records.specs.Most.{mostCrossed}
 use Rattle.unify.specs.Unify.{filledSlots}
 use Rattle.unify_slots.specs.Table.{slotCount, view, Room}
@@ -35,23 +32,19 @@ fewRecords = 192
 abbrev pub none : Counted
 none = record { errors = 0; warnings = 0 }
 
--- rules 1 to 5, as they are run
-unfoldable pub firstFive : Model → List Diagnostic
-firstFive m = (rule1 m ++ rule2 m) ++ (rule3 m ++ rule4 m) ++ rule5 m
-
--- the most that rules 1 and 2, 3 and 4, and 1 to 5 report
+-- the most that rules 1 and 2, 3 and 4, and all before rule 6 report
 abbrev pub mostFirstTwo : ℕ
 mostFirstTwo = mostArenaFaults + mostOutputFaults * mostBoundaryOutputs
 
 abbrev pub mostSecondTwo : ℕ
 mostSecondTwo = mostAssignmentFaults * mostConnectors + mostConnectionFaults * mostConnections
 
-abbrev pub mostFirstFive : ℕ
-mostFirstFive = mostFirstTwo + mostSecondTwo + mostCrossed
+abbrev pub mostBefore6 : ℕ
+mostBefore6 = mostFirstTwo + mostSecondTwo + mostCrossed
 
 -- the most that all rules report
 abbrev pub mostDiagnostics : ℕ
-mostDiagnostics = mostFirstFive + mostUnifiedFaults
+mostDiagnostics = mostBefore6 + mostUnifiedFaults
 
 -- the table holds the slots after all roots, and a report b has become b′ by all diagnostics of a model, c of them
 pub record Ran (m : Model) (table b b′ : List ℕ) (c : Counted) : Type 0 where

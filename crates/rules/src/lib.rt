@@ -1,4 +1,4 @@
-// All rules in their order, over one report.
+// All rules in their order (FORMAT 7), over one report.
 use crossed_records::check_crossed_bounds;
 use image_accept::Layout;
 use oce_diag::Counted;
@@ -20,8 +20,8 @@ ghost use Rattle.image_accept.specs.Layout.{Laid, Tabled};
 ghost use Rattle.structural.specs.Structural.{rule1, rule2, rule3, rule4};
 ghost use Rattle.structural_degrees.specs.Columns.{Degrees};
 ghost use Rattle.structural_externals.specs.Columns.{Listed};
-ghost use Rattle.unify_slots.specs.Table.{slotCount, Room};
-ghost use Rattle.rules.specs.Ran.{fewRecords, firstFive, Ready, Ran, mostFirstTwo, mostSecondTwo, mostFirstFive};
+ghost use Rattle.outcome.specs.Report.{rulesBefore6};
+ghost use Rattle.rules.specs.Ran.{fewRecords, Ready, Ran, mostFirstTwo, mostSecondTwo, mostBefore6};
 
 // So many connectors, and so many external inputs, have shorter columns, which are sooner cleared.
 const FEW_RECORDS: usize = 192;
@@ -59,8 +59,8 @@ fn assignments_and_connections(
     check_connections(image, layout, report, c)
 }
 
-// Rules 1 to 5.
-fn first_five<'a>(
+// The rules before rule 6.
+fn rules_before_6<'a>(
     image: &'a [u8],
     layout: Layout,
     texts: &'a [usize],
@@ -70,8 +70,8 @@ fn first_five<'a>(
     report: &mut [u8],
     counted: Counted,
 ) -> Counted
-    requires { ⌜ Laid (now image) layout × Tabled textTag (now image) (now texts) × Tabled blockTag (now image) (now blocks) × Degrees (modelOf (now image)) (now degrees) × Listed (modelOf (now image)) (now externals) × Countable mostFirstFive counted ⌝ }
-    ensures { λ r. ⌜ Put (now (report .entry)) counted (firstFive (modelOf (now (image .entry)))) (now (report .exit)) r × Adds mostFirstFive counted r ⌝ }
+    requires { ⌜ Laid (now image) layout × Tabled textTag (now image) (now texts) × Tabled blockTag (now image) (now blocks) × Degrees (modelOf (now image)) (now degrees) × Listed (modelOf (now image)) (now externals) × Countable mostBefore6 counted ⌝ }
+    ensures { λ r. ⌜ Put (now (report .entry)) counted (rulesBefore6 (modelOf (now (image .entry)))) (now (report .exit)) r × Adds mostBefore6 counted r ⌝ }
 {
     let a = ids_and_outputs(image, layout, blocks, report, counted);
     let b = assignments_and_connections(image, layout, degrees, externals, report, a);
@@ -96,7 +96,7 @@ fn run_over<'a>(
         errors: 0,
         warnings: 0,
     };
-    let c = first_five(
+    let c = rules_before_6(
         image,
         layout,
         texts,

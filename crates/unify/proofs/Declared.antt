@@ -11,7 +11,9 @@ use borrow.Author.Tests.{eqb-true}
 use Rattle.numbers.specs.Bytes.{bit}
 use Rattle.numbers.proofs.Bits.{bit-other, bit-same}
 use Rattle.oce_model.specs.Attributes.{Attrs, declareAt, declaredAt, marked, num}
-use Rattle.unify.specs.Slots.{bitOf, kindOf, put, putAt, value}
+use Rattle.unify.specs.Details.{bitOf, kindOf}
+use Rattle.unify.specs.Slots.{put, putAt, value}
+use Rattle.unify.specs.declared.Detail.{Detail}
 use Rattle.unify.proofs.Fixed.{put-kind}
 
 -- where nothing is declared, the bit is clear
@@ -36,7 +38,7 @@ unfolding declareAt
 declareAt-kind a p v = refl
 
 -- under another bit, or of another kind
-pub put-declaredAt : (e v : ℕ) (a : Attrs) (p : ℕ) → (a .kind ≡ kindOf e → p ≢ bitOf e) → declaredAt (put e v a) p ≡ declaredAt a p
+pub put-declaredAt : (e : Detail) (v : ℕ) (a : Attrs) (p : ℕ) → (a .kind ≡ kindOf e → p ≢ bitOf e) → declaredAt (put e v a) p ≡ declaredAt a p
 unfolding put
 put-declaredAt e v a p n = arm (eqb (a .kind) (kindOf e)) refl (declaredAt a (bitOf e)) refl
   where
@@ -45,7 +47,7 @@ put-declaredAt e v a p n = arm (eqb (a .kind) (kindOf e)) refl (declaredAt a (bi
     arm true h (some u) q = refl
     arm true h none q = declareAt-other a (bitOf e) p v q (n (eqb-true _ _ h))
 
-pub value-put : (d e v : ℕ) → (kindOf d ≡ kindOf e → bitOf d ≢ bitOf e) → (a : Attrs) → value d (put e v a) ≡ value d a
+pub value-put : (d e : Detail) (v : ℕ) → (kindOf d ≡ kindOf e → bitOf d ≢ bitOf e) → (a : Attrs) → value d (put e v a) ≡ value d a
 unfolding value put
 value-put d e v n a = rw (put-kind e v a) (arm (eqb (a .kind) (kindOf d)) refl)
   where

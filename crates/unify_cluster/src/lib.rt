@@ -1,4 +1,4 @@
-// One cluster of rule 6: what its seven details report, and what six of them fill.
+// One cluster of rule 6: what 6.1 to 6.7 report, and what the first six of them fill (FORMAT 16).
 use image_accept::Layout;
 use image_records::connector;
 use oce_diag::Counted;
@@ -9,35 +9,34 @@ use oce_diag::put;
 use oce_diag::subject_of;
 use oce_diag::warning;
 use oce_model::ConnectorId;
-use oce_model::MIN_BIT;
+use unify::Detail;
 use unify_seen::Seen;
 use unify_seen::is_seen;
 use unify_seen::seen_in;
 use unify_seen::sees_nothing;
 use unify_settle::decide_and_apply;
 use unify_settle::diverges;
-use unify_slots::bit_of;
+use unify_slots::detail_number;
+use unify_slots::is_text;
 ghost use mathlib.Core.Path.{_≡_};
 ghost use mathlib.Core.List.{[], _∷_};
 ghost use Prim.Native.Nat.{_+_, _≤_, _<_};
-ghost use lib.ListN.{length};
+ghost use lib.ListN.{getD};
 ghost use Rattle.oce_model.specs.Model.{modelOf, connector};
 ghost use Rattle.image_accept.specs.Layout.{Laid};
 ghost use Rattle.oce_diag.specs.Diagnostics.{subjectOf, error, warning};
 ghost use Rattle.oce_diag.specs.declared.DiagCode.the-variants.{DisplayUnitDivergence};
+ghost use Rattle.unify.specs.declared.Detail.the-variants.{IntegerMax, DisplayUnit};
 ghost use Rattle.oce_diag.specs.Putting.{Put, Countable, Adds};
-ghost use Rattle.unify.specs.Slots.{unifiedDetails, displayDetail};
+ghost use Rattle.unify.specs.Details.{detailNumber, unifiedDetails};
 ghost use Rattle.unify.specs.Unify.{conflictCode};
-ghost use Rattle.unify_slots.specs.Table.{view};
-ghost use Rattle.unify_seen.specs.Seen.{Sees};
 ghost use Rattle.unify_settle.specs.Settle.{Ready};
-ghost use Rattle.unify_cluster.specs.Clusters.{mostClusterFaults, Unseen, Detailed, Details, Displayed, Clustered};
+ghost use Rattle.unify_cluster.specs.Clusters.{unifiedCount, mostClusterFaults, Unseen, Detailed, AllDetailed, Displayed, Clustered};
 
 const RULE: u8 = 6;
 
-const UNIFIED_DETAILS: usize = 6;
-
-const DISPLAY_DETAIL: usize = 7;
+// How many details are filled.
+const UNIFIED_COUNT: usize = 6;
 
 // ---- diagnostics about a root
 
@@ -51,11 +50,10 @@ pub fn subject(image: &[u8], layout: Layout, root: ConnectorId) -> Subject
 }
 
 // The Rust's `RealAttr::conflict_code`: a text's conflict or an end's.
-fn conflict_code(detail: usize) -> DiagCode
-    requires { ⌜ detail ≤ displayDetail ⌝ }
+fn conflict_code(detail: Detail) -> DiagCode
     ensures { λ r. ⌜ r ≡ conflictCode detail ⌝ }
 {
-    if bit_of(detail) < MIN_BIT {
+    if is_text(detail) {
         return DiagCode::UnitQuantityMismatch;
     }
     DiagCode::BoundMismatch
@@ -66,20 +64,20 @@ fn tell_conflict(
     image: &[u8],
     layout: Layout,
     root: ConnectorId,
-    detail: usize,
+    detail: Detail,
     report: &mut [u8],
     counted: Counted,
 ) -> Counted
-    requires { ⌜ Laid (now image) layout × (root .0 < layout .connectors .count) × (detail ≤ displayDetail) × Countable 1 counted ⌝ }
-    ensures { λ c. ⌜ Put (now (report .entry)) counted (error (conflictCode detail) 6 detail (subjectOf (connector (modelOf (now (image .entry))) (root .0))) (root .0) ∷ []) (now (report .exit)) c × Adds 1 counted c ⌝ }
+    requires { ⌜ Laid (now image) layout × (root .0 < layout .connectors .count) × Countable 1 counted ⌝ }
+    ensures { λ c. ⌜ Put (now (report .entry)) counted (error (conflictCode detail) 6 (detailNumber detail) (subjectOf (connector (modelOf (now (image .entry))) (root .0))) (root .0) ∷ []) (now (report .exit)) c × Adds 1 counted c ⌝ }
 {
     let s = subject(image, layout, root);
     let code = conflict_code(detail);
-    let e = error(code, RULE, detail as u8, s, root.0);
+    let e = error(code, RULE, detail_number(detail), s, root.0);
     put(report, counted, e)
 }
 
-// A warning of detail 7 about a root.
+// The warning of 6.7 about a root.
 fn tell_divergence(
     image: &[u8],
     layout: Layout,
@@ -88,13 +86,13 @@ fn tell_divergence(
     counted: Counted,
 ) -> Counted
     requires { ⌜ Laid (now image) layout × (root .0 < layout .connectors .count) × Countable 1 counted ⌝ }
-    ensures { λ c. ⌜ Put (now (report .entry)) counted (warning DisplayUnitDivergence 6 displayDetail (subjectOf (connector (modelOf (now (image .entry))) (root .0))) (root .0) ∷ []) (now (report .exit)) c × Adds 1 counted c ⌝ }
+    ensures { λ c. ⌜ Put (now (report .entry)) counted (warning DisplayUnitDivergence 6 (detailNumber DisplayUnit) (subjectOf (connector (modelOf (now (image .entry))) (root .0))) (root .0) ∷ []) (now (report .exit)) c × Adds 1 counted c ⌝ }
 {
     let s = subject(image, layout, root);
     let w = warning(
         DiagCode::DisplayUnitDivergence,
         RULE,
-        DISPLAY_DETAIL as u8,
+        detail_number(Detail::DisplayUnit),
         s,
         root.0,
     );
@@ -114,14 +112,16 @@ fn unify_detail<'a>(
     members: &[usize],
     root: ConnectorId,
     found: Seen,
-    detail: usize,
+    detail: Detail,
     report: &mut [u8],
     counted: Counted,
 ) -> Counted
-    requires { ⌜ Ready (now image) layout (now texts) slots (now table) (now members) × (root .0 < layout .connectors .count) × (detail ≤ displayDetail) × Countable 1 counted
-        × Unseen detail slots (now table) (now members) (found .real) (found .integer) ⌝ }
+    requires { ⌜ Ready (now image) layout (now texts) slots (now table) (now members) × (root .0 < layout .connectors .count) × Countable 1 counted
+        × Unseen slots (now table) (now members) (found .real) (found .integer) ⌝ }
     ensures { λ c. ⌜ Detailed (modelOf (now (image .entry))) (root .0) detail slots (now (members .entry)) (now (table .entry)) (now (table .exit))
-        (now (report .entry)) counted (now (report .exit)) c ⌝ }
+        (now (report .entry)) counted (now (report .exit)) c
+        × Ready (now (image .entry)) layout (now (texts .entry)) slots (now (table .exit)) (now (members .entry))
+        × Unseen slots (now (table .exit)) (now (members .entry)) (found .real) (found .integer) × Adds 1 counted c ⌝ }
 {
     if !is_seen(found, detail) {
         return counted;
@@ -132,7 +132,21 @@ fn unify_detail<'a>(
     counted
 }
 
-// Details 1 to 6.
+// Detail i of those that are filled, from 0 on.
+fn detail_at(i: usize) -> Detail
+    ensures { λ r. ⌜ r ≡ getD unifiedDetails i IntegerMax ⌝ }
+{
+    match i {
+        0 => Detail::Unit,
+        1 => Detail::Quantity,
+        2 => Detail::RealMin,
+        3 => Detail::RealMax,
+        4 => Detail::IntegerMin,
+        _ => Detail::IntegerMax,
+    }
+}
+
+// 6.1 to 6.6.
 fn details<'a>(
     image: &'a [u8],
     layout: Layout,
@@ -145,16 +159,16 @@ fn details<'a>(
     report: &mut [u8],
     counted: Counted,
 ) -> Counted
-    requires { ⌜ Ready (now image) layout (now texts) slots (now table) (now members) × (root .0 < layout .connectors .count) × Countable unifiedDetails counted
-        × Sees (view slots (now table)) (now members) (found .real) (found .integer) (length (now members)) ⌝ }
-    ensures { λ c. ⌜ Details (modelOf (now (image .entry))) (root .0) slots (now (members .entry)) (now (table .entry)) (now (table .exit))
-        (now (report .entry)) counted (now (report .exit)) c unifiedDetails
-        × Ready (now (image .entry)) layout (now (texts .entry)) slots (now (table .exit)) (now (members .entry)) × Adds unifiedDetails counted c
-        × Unseen displayDetail slots (now (table .exit)) (now (members .entry)) (found .real) (found .integer) ⌝ }
+    requires { ⌜ Ready (now image) layout (now texts) slots (now table) (now members) × (root .0 < layout .connectors .count) × Countable unifiedCount counted
+        × Unseen slots (now table) (now members) (found .real) (found .integer) ⌝ }
+    ensures { λ c. ⌜ AllDetailed (modelOf (now (image .entry))) (root .0) slots (now (members .entry)) (now (table .entry)) (now (table .exit))
+        (now (report .entry)) counted (now (report .exit)) c
+        × Ready (now (image .entry)) layout (now (texts .entry)) slots (now (table .exit)) (now (members .entry))
+        × Unseen slots (now (table .exit)) (now (members .entry)) (found .real) (found .integer) × Adds unifiedCount counted c ⌝ }
 {
     let mut c = counted;
     let mut i = 0;
-    while i < UNIFIED_DETAILS {
+    while i < UNIFIED_COUNT {
         c = unify_detail(
             image,
             layout,
@@ -164,7 +178,7 @@ fn details<'a>(
             members,
             root,
             found,
-            i + 1,
+            detail_at(i),
             report,
             c,
         );
@@ -173,7 +187,7 @@ fn details<'a>(
     c
 }
 
-// Detail 7, if any member declares it: a warning where display units differ.
+// 6.7, if any member declares it: a warning where display units differ.
 fn warn_display_unit_divergence<'a>(
     image: &'a [u8],
     layout: Layout,
@@ -187,19 +201,27 @@ fn warn_display_unit_divergence<'a>(
     counted: Counted,
 ) -> Counted
     requires { ⌜ Ready (now image) layout (now texts) slots (now table) (now members) × (root .0 < layout .connectors .count) × Countable 1 counted
-        × Unseen displayDetail slots (now table) (now members) (found .real) (found .integer) ⌝ }
+        × Unseen slots (now table) (now members) (found .real) (found .integer) ⌝ }
     ensures { λ c. ⌜ Displayed (modelOf (now (image .entry))) (root .0) slots (now (members .entry)) (now (table .entry)) (now (report .entry)) counted (now (report .exit)) c ⌝ }
 {
-    if !is_seen(found, DISPLAY_DETAIL) {
+    if !is_seen(found, Detail::DisplayUnit) {
         return counted;
     }
-    if diverges(image, layout, texts, slots, table, members, DISPLAY_DETAIL) {
+    if diverges(
+        image,
+        layout,
+        texts,
+        slots,
+        table,
+        members,
+        Detail::DisplayUnit,
+    ) {
         return tell_divergence(image, layout, root, report, counted);
     }
     counted
 }
 
-// Details 1 to 7.
+// 6.1 to 6.7.
 fn all_details<'a>(
     image: &'a [u8],
     layout: Layout,
@@ -213,7 +235,7 @@ fn all_details<'a>(
     counted: Counted,
 ) -> Counted
     requires { ⌜ Ready (now image) layout (now texts) slots (now table) (now members) × (root .0 < layout .connectors .count) × Countable mostClusterFaults counted
-        × Sees (view slots (now table)) (now members) (found .real) (found .integer) (length (now members)) ⌝ }
+        × Unseen slots (now table) (now members) (found .real) (found .integer) ⌝ }
     ensures { λ c. ⌜ Clustered (modelOf (now (image .entry))) (root .0) slots (now (members .entry)) (now (table .entry)) (now (table .exit))
         (now (report .entry)) counted (now (report .exit)) c ⌝ }
 {
@@ -243,7 +265,7 @@ fn all_details<'a>(
     )
 }
 
-// A cluster: details 1 to 6, then a warning where display units differ. Nothing is to be done where nothing is declared.
+// A cluster: nothing is to be done where nothing is declared.
 pub fn cluster<'a>(
     image: &'a [u8],
     layout: Layout,

@@ -1,26 +1,32 @@
 -- Laws of all of rule 6.
 use Prim.Native.Nat.{ℕ, _+_, _≤_, _<_}
+use native.Mathlib.Decide.{ℕ-discrete}
 use native.Mathlib.Omega.{arith}
 use mathlib.Core.Path.{_≡_, sym, _∙_}
-use mathlib.Core.List.{List}
+use mathlib.Core.Bool.{cond, _||_}
+use mathlib.Core.List.{List, _++_}
 use lib.ListN.{length, replicate, length-replicate, getD-replicate}
 use mir.Syntax.{w64}
 use mir.Val.{Fits}
-use borrow.Author.Tests.{eq-eqb, ne-eqb}
+use lib.Dec.{ltb}
+use borrow.Author.Tests.{lt-ltb, le-ltb}
 use Rattle.oce_model.specs.Format.{textTag, mostConnectors}
 use Rattle.oce_model.specs.Model.{Model, modelOf, connectorCount}
 use Rattle.image_accept.specs.Layout.{Laid, Tabled}
 use Rattle.image_accept.specs.declared.Layout.{Layout}
 use Rattle.image_records.proofs.Laws.{connectors-counted, connections-counted, outputs-counted, connectors-few, connections-few, boundary-outputs-few}
 use Rattle.oce_diag.specs.declared.Counted.{Counted}
+use Rattle.oce_diag.specs.Diagnostics.{errors, hasError}
+use Rattle.oce_diag.proofs.Diagnostics.{no-errors, some-error}
 use Rattle.oce_diag.proofs.Putting.{put-then}
+use Rattle.unify.specs.Unify.{clustersFaults, propagated, rule6}
 use Rattle.unify_slots.specs.Table.{slotCount}
 use Rattle.unify_slots.specs.Loading.{Read}
 use Rattle.unify_links.specs.Links.{linkCount, Empty, Linked}
 use Rattle.unify_clusters.specs.Roots.{Stage, AllRooted as Rooted}
 use Rattle.unify_propagated.specs.Propagated.{Propagated, Stage as Filled}
 use Rattle.unify_propagated.proofs.Laws.{linked-headed}
-use Rattle.unify_clusters.specs.Unified.{mostLinks, fewConnectors, fewLinks, wholeRule6, Unified}
+use Rattle.unify_clusters.specs.Unified.{mostLinks, fewConnectors, fewLinks, Unified}
 
 -- ---- roots, and the test of their ranges
 
@@ -28,25 +34,36 @@ module _ {image : List ℕ} {layout : Layout} {texts head next : List ℕ} {n : 
   pub stage-after : Filled image layout head n table
   stage-after = record { laid = y .laid; headed = linked-headed (y .linked); count = y .count; room = y .room }
 
+-- what rule 6 adds to a list that holds e errors, by whether there is an error after all roots
+rule6-tested : (m : Model) (e : ℕ) → e + errors (clustersFaults m) ≡ 0 → rule6 m (ltb 0 e) ≡ clustersFaults m ++ propagated m
+unfolding rule6
+rule6-tested m e h = rw (le-ltb 0 e (omega arith), no-errors (clustersFaults m) (omega arith))
+
+rule6-not : (m : Model) (e : ℕ) → (e + errors (clustersFaults m) ≡ 0 → ⊥) → rule6 m (ltb 0 e) ≡ clustersFaults m
+unfolding rule6
+rule6-not m e h = arm (ℕ-discrete e 0)
+  where
+    arm : Dec (e ≡ 0) → cond (ltb 0 e || hasError (clustersFaults m)) (clustersFaults m) (clustersFaults m ++ propagated m) ≡ clustersFaults m
+    arm (yes z) = rw (le-ltb 0 e (omega arith), some-error (clustersFaults m) (omega arith))
+    arm (no z) = rw (lt-ltb 0 e (omega arith))
+
 module _ {image : List ℕ} {layout : Layout} {texts head next : List ℕ} {n : ℕ} {table members b b′ : List ℕ} {c c′ : Counted}
     (v : Rooted (modelOf image) n table b c b′ c′) (y : Stage image layout texts head next n table members) where
   pub unified-tested : {b″ : List ℕ} {c″ : Counted} → Propagated (modelOf image) b′ c′ b″ c″ → c′ .errors ≡ 0 → Unified (modelOf image) n table b c b″ c″
-  unfolding wholeRule6
   unified-tested p e = record {
     count = y .count;
     slots = v .slots;
     room = v .room;
-    put = rw (eq-eqb _ _ (sym (v .put .errors) ∙ e)) (put-then (v .put) (p .put));
+    put = rw (rule6-tested (modelOf image) (c .errors) (sym (v .put .errors) ∙ e)) (put-then (v .put) (p .put));
     few = omega (arith, v .few, p .few);
   }
 
   pub unified-not : (c′ .errors ≡ 0 → ⊥) → Unified (modelOf image) n table b c b′ c′
-  unfolding wholeRule6
   unified-not e = record {
     count = y .count;
     slots = v .slots;
     room = v .room;
-    put = rw (ne-eqb _ _ (λ z. e (v .put .errors ∙ z))) (v .put);
+    put = rw (rule6-not (modelOf image) (c .errors) (λ z. e (v .put .errors ∙ z))) (v .put);
     few = omega (arith, v .few);
   }
 

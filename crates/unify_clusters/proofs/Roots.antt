@@ -16,7 +16,7 @@ use Rattle.oce_diag.specs.declared.Counted.{Counted}
 use Rattle.oce_diag.specs.Putting.{Emits, Countable, Adds}
 use Rattle.oce_diag.proofs.Putting.{put-none, emits-start, emits-turn, emits-put, emits-length, emits-few}
 use Rattle.unify.specs.Clusters.{driven, isRoot}
-use Rattle.unify.specs.Unify.{fillRoot, rootFaults, filledTo, filledSlots, rule6}
+use Rattle.unify.specs.Unify.{fillRoot, rootFaults, filledTo, filledSlots, clustersFaults}
 use Rattle.unify_slots.specs.Table.{view}
 use Rattle.image_records.proofs.Laws.{connectors-counted, connectors-few, connections-few, boundary-outputs-few, connections-counted, outputs-counted}
 use Rattle.unify_slots.specs.Loading.{Read}
@@ -143,7 +143,7 @@ module _ {image : List ℕ} {layout : Layout} {texts head next : List ℕ} {n ro
     }
 
     pub roots-done : roots ≤ r → AllRooted (modelOf image) n table b c b′ c′
-    unfolding rule6 filledSlots
+    unfolding clustersFaults filledSlots
     roots-done h =
         let e : r ≡ connectorCount (modelOf image) = omega (arith, v .emits .within, v .same) in
         record {

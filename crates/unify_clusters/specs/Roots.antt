@@ -1,4 +1,4 @@
--- What the code's steps ask and give over the roots of rule 6.
+-- What the code's steps ask and give over the roots of rule 6 (FORMAT 16).
 use Prim.Native.Nat.{ℕ, _+_, _*_, _≤_, _<_}
 use mathlib.Core.Path.{_≡_}
 use mathlib.Core.List.{List}
@@ -9,7 +9,7 @@ use Rattle.image_accept.specs.Layout.{Laid, Tabled}
 use Rattle.image_accept.specs.declared.Layout.{Layout}
 use Rattle.oce_diag.specs.declared.Counted.{Counted}
 use Rattle.oce_diag.specs.Putting.{Put, Adds}
-use Rattle.unify.specs.Unify.{fillRoot, rootFaults, filledSlots, rule6}
+use Rattle.unify.specs.Unify.{fillRoot, rootFaults, filledSlots, clustersFaults}
 use Rattle.unify_slots.specs.Table.{slotCount, view, Room}
 use Rattle.unify_cluster.specs.Clusters.{mostClusterFaults}
 use Rattle.unify_links.specs.Links.{linkCount, Linked}
@@ -23,7 +23,7 @@ pub record Stage (image : List ℕ) (layout : Layout) (texts head next : List �
   pub room : Room n table
   pub wide : linkCount (modelOf image) < length members
 
--- the most that details 1 to 7 report
+-- the most that 6.1 to 6.7 report
 abbrev pub mostRootsFaults : ℕ
 mostRootsFaults = mostClusterFaults * mostConnectors
 
@@ -39,5 +39,5 @@ pub record Rooted (m : Model) (r n : ℕ) (table table′ b : List ℕ) (c : Cou
 pub record AllRooted (m : Model) (n : ℕ) (table b : List ℕ) (c : Counted) (b′ : List ℕ) (c′ : Counted) : Type 0 where
   pub slots : view n table ≡ filledSlots m
   pub room : Room n table
-  pub put : Put b c (rule6 m) b′ c′
+  pub put : Put b c (clustersFaults m) b′ c′
   pub few : Adds (mostClusterFaults * connectorCount m) c c′

@@ -1,5 +1,5 @@
-// Rule 6, the Rust's `unify_clusters`: the slots of an image read, all roots in turn, and where the list
-// then holds no error, the test of every root's range.
+// Rule 6 (FORMAT 16), the Rust's `unify_clusters`: the slots of an image read, all roots in turn, and where
+// the list then holds no error, the test of every root's range.
 use image_accept::Layout;
 use oce_diag::Counted;
 use oce_model::ConnectorId;

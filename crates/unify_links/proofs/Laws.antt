@@ -22,7 +22,6 @@ use Rattle.oce_model.specs.declared.BoundaryOutputFront.{BoundaryOutputFront}
 use Rattle.image_accept.specs.Layout.{Laid}
 use Rattle.image_accept.specs.declared.Layout.{Layout}
 use Rattle.image_records.specs.Records.{connectorRead, connectionRead, outputRead}
-use Rattle.structural.specs.Degrees.{degree}
 use Rattle.structural.specs.Structural.{inRange, matches}
 use Rattle.structural_degrees.specs.Columns.{Degrees}
 use Rattle.unify.specs.Clusters.{drives, sound, target, alias, driven, isRoot}

@@ -1,4 +1,4 @@
--- Links, which join slots to the roots of their clusters, and lists of them. The links have one numbering: the connections, and behind them the boundary outputs.
+-- Links, which join slots to the roots of their clusters (FORMAT 15), and lists of them. The links have one numbering: the connections, and behind them the boundary outputs.
 use Prim.Native.Nat.{ℕ, _+_, _-_, _≤_, _<_}
 use mathlib.Core.Path.{_≡_}
 use mathlib.Core.Bool.{Bool, false, cond}

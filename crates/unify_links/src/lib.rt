@@ -1,4 +1,4 @@
-// The clusters of rule 6, from lists of links: the connections, and behind them the boundary outputs.
+// The clusters of rule 6 (FORMAT 15), from lists of links: the connections, and behind them the boundary outputs.
 use image_accept::Layout;
 use image_attributes::attrs_kind;
 use image_records::boundary_output;

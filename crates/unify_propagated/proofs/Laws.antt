@@ -1,4 +1,4 @@
--- Laws of detail 8.
+-- Laws of 6.8.
 use Prim.Native.Nat.{ℕ, _+_, _≤_, _<_}
 use native.Mathlib.Omega.{arith}
 use mathlib.Core.Path.{_≡_, _∙_}

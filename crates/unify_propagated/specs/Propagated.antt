@@ -1,4 +1,4 @@
--- What the code's steps ask and give for detail 8 of rule 6.
+-- What the code's steps ask and give for 6.8 (FORMAT 16).
 use Prim.Native.Nat.{ℕ, _+_, _≤_, _<_}
 use mathlib.Core.Path.{_≡_}
 use mathlib.Core.List.{List}

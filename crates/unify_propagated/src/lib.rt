@@ -1,4 +1,4 @@
-// Detail 8 of rule 6: roots whose range is crossed after all roots are filled.
+// 6.8: roots whose range is crossed after all roots are filled (FORMAT 16).
 use crossed_bounds::Range;
 use crossed_ranges::integer_range;
 use crossed_ranges::is_crossed;
@@ -51,7 +51,7 @@ fn slot_range(image: &[u8], layout: Layout, slots: usize, table: &[u64], j: usiz
 
 // ---- roots
 
-// An error of detail 8 about a root.
+// The error of 6.8 about a root.
 fn tell_crossed(
     image: &[u8],
     layout: Layout,

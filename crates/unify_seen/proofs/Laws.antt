@@ -13,10 +13,13 @@ use lib.ListN.{length, getD}
 use borrow.Author.Tests.{eqb-true, eqb-false, eq-eqb, ne-eqb}
 use Rattle.numbers.specs.Bytes.{bit}
 use Rattle.oce_model.specs.Format.{realKind, integerKind}
-use Rattle.unify.specs.Slots.{Slots, slot, kindOf, bitOf, value}
-use Rattle.unify.specs.Unify.{declared}
-use Rattle.unify_slots.specs.Table.{declares, Inside}
-use Rattle.unify_slots.proofs.Laws.{value-declares}
+use Rattle.oce_model.specs.Attributes.{Attrs, declaredAt, marked, num}
+use Rattle.unify.specs.Details.{kindOf, bitOf}
+use Rattle.unify.specs.Slots.{Slots, slot, value}
+use Rattle.unify.specs.Unify.{declarations}
+use Rattle.unify.specs.declared.Detail.{Detail}
+use Rattle.unify.proofs.Details.{kindOf-le}
+use Rattle.unify_slots.specs.Table.{Inside}
 use Rattle.unify_seen.specs.Seen.{Holds, TakenIn, Sees, shows}
 
 -- ---- bits
@@ -80,7 +83,7 @@ member-inside n js i v h e = rw e (v .each i h)
 
 -- ---- a detail
 
-module _ (d real integer : ℕ) {k p : ℕ} {r : Bool} (ek : k ≡ kindOf d) (ep : p ≡ bitOf d) where
+module _ (d : Detail) (real integer : ℕ) {k p : ℕ} {r : Bool} (ek : k ≡ kindOf d) (ep : p ≡ bitOf d) where
   pub shows-real : r ≡ bit real p → k ≡ realKind → r ≡ shows d real integer
   unfolding shows
   shows-real er e = er ∙ rw (eq-eqb (kindOf d) realKind (sym ek ∙ e), ep)
@@ -89,33 +92,22 @@ module _ (d real integer : ℕ) {k p : ℕ} {r : Bool} (ek : k ≡ kindOf d) (ep
   unfolding shows
   shows-integer er n = er ∙ rw (ne-eqb (kindOf d) realKind (λ e. n (ek ∙ e)), ep)
 
-kind-two : (d : ℕ) → kindOf d < 2
-unfolding kindOf
-kind-two zero = omega arith
-kind-two (suc zero) = omega arith
-kind-two (suc (suc zero)) = omega arith
-kind-two (suc (suc (suc zero))) = omega arith
-kind-two (suc (suc (suc (suc zero)))) = omega arith
-kind-two (suc (suc (suc (suc (suc zero))))) = omega arith
-kind-two (suc (suc (suc (suc (suc (suc zero)))))) = omega arith
-kind-two (suc (suc (suc (suc (suc (suc (suc zero))))))) = omega arith
-kind-two (suc (suc (suc (suc (suc (suc (suc (suc d)))))))) = omega arith
-
-declares-false : (d k m : ℕ) → (k ≡ kindOf d → bit m (bitOf d) ≡ false) → declares d k m ≡ false
-unfolding declares
-declares-false d k m h = arm (eqb k (kindOf d)) refl
+-- attributes of the kind that don't have the bit set declare nothing
+value-unmarked : (d : Detail) (a : Attrs) → (a .kind ≡ kindOf d → bit (a .marks) (bitOf d) ≡ false) → value d a ≡ none
+unfolding value declaredAt
+value-unmarked d a h = arm (eqb (a .kind) (kindOf d)) refl
   where
-    arm : (b : Bool) → eqb k (kindOf d) ≡ b → (b && bit m (bitOf d)) ≡ false
-    arm true e = h (eqb-true _ _ e)
+    arm : (b : Bool) → eqb (a .kind) (kindOf d) ≡ b → cond b (marked (bit (a .marks) (bitOf d)) (num a (bitOf d))) none ≡ none
+    arm true e = rw (h (eqb-true _ _ e))
     arm false e = refl
 
-none-declared : (d : ℕ) (σ : Slots) (js : List ℕ) → ((i : ℕ) → i < length js → value d (slot σ (getD js i 0)) ≡ none) → declared d σ js ≡ []
-unfolding declared
+none-declared : (d : Detail) (σ : Slots) (js : List ℕ) → ((i : ℕ) → i < length js → value d (slot σ (getD js i 0)) ≡ none) → declarations d σ js ≡ []
+unfolding declarations
 none-declared d σ [] h = refl
 none-declared d σ (j ∷ js) h = rw (h 0 (omega arith)) (none-declared d σ js (λ i l. h (suc i) (omega arith)))
 
 -- what shows in neither kind's marks no member declares
-module _ {σ : Slots} {js : List ℕ} {real integer : ℕ} (v : Sees σ js real integer (length js)) (d : ℕ) (e : shows d real integer ≡ false) where
+module _ {σ : Slots} {js : List ℕ} {real integer : ℕ} (v : Sees σ js real integer (length js)) (d : Detail) (e : shows d real integer ≡ false) where
   unmarked : (i : ℕ) → i < length js → slot σ (getD js i 0) .kind ≡ kindOf d → bit (slot σ (getD js i 0) .marks) (bitOf d) ≡ false
   unfolding shows
   unmarked i h f = arm (eqb (kindOf d) realKind) refl e
@@ -124,18 +116,14 @@ module _ {σ : Slots} {js : List ℕ} {real integer : ℕ} (v : Sees σ js real 
       arm true q c = v .reals .each i (bitOf d) h (f ∙ eqb-true _ _ q) c
       arm false q c =
           let n : kindOf d ≡ realKind → ⊥ = eqb-false _ _ q in
-          let k : kindOf d ≡ integerKind = omega (arith, kind-two d) in
+          let k : kindOf d ≡ integerKind = omega (arith, kindOf-le d) in
           v .integers .each i (bitOf d) h (f ∙ k) c
 
-  pub undeclared : declared d σ js ≡ []
-  undeclared =
-      none-declared d σ js
-      (λ i h.
-      let a = slot σ (getD js i 0) in
-      value-declares d a ∙ rw (declares-false d (a .kind) (a .marks) (unmarked i h)))
+  pub undeclared : declarations d σ js ≡ []
+  undeclared = none-declared d σ js (λ i h. value-unmarked d (slot σ (getD js i 0)) (unmarked i h))
 
 -- nothing is set in marks that are 0
-pub nothing-shows : (real integer : ℕ) {t : Bool} → t ≡ (eqb real 0 && eqb integer 0) → t ≡ true → (d : ℕ) → shows d real integer ≡ false
+pub nothing-shows : (real integer : ℕ) {t : Bool} → t ≡ (eqb real 0 && eqb integer 0) → t ≡ true → (d : Detail) → shows d real integer ≡ false
 unfolding shows
 nothing-shows real integer et e d = arm (eqb real 0) refl (eqb integer 0) refl (sym et ∙ e) (eqb (kindOf d) realKind)
   where

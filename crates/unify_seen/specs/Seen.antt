@@ -1,4 +1,4 @@
--- What the members of a cluster declare: the marks of its Real members together, and those of its Integer members.
+-- What the members of a cluster (FORMAT 15) declare: the marks of its Real members together, and those of its Integer members.
 use Prim.Native.Nat.{ℕ, _≤_, _<_}
 use mathlib.Core.Path.{_≡_}
 use mathlib.Core.Bool.{Bool, false, cond}
@@ -7,7 +7,9 @@ use lib.ListN.{length, getD}
 use lib.Dec.{eqb}
 use Rattle.numbers.specs.Bytes.{bit}
 use Rattle.oce_model.specs.Format.{realKind, integerKind}
-use Rattle.unify.specs.Slots.{Slots, slot, kindOf, bitOf}
+use Rattle.unify.specs.Details.{kindOf, bitOf}
+use Rattle.unify.specs.Slots.{Slots, slot}
+use Rattle.unify.specs.declared.Detail.{Detail}
 
 -- b has the marks of the first n members of kind k: a bit that isn't set in it is set in none of them
 pub record Holds (k : ℕ) (σ : Slots) (js : List ℕ) (b n : ℕ) : Type 0 where
@@ -25,5 +27,5 @@ pub record Sees (σ : Slots) (js : List ℕ) (real integer n : ℕ) : Type 0 whe
   pub integers : Holds integerKind σ js integer n
 
 -- detail d's bit is set in the marks of its kind
-unfoldable pub shows : ℕ → ℕ → ℕ → Bool
+unfoldable pub shows : Detail → ℕ → ℕ → Bool
 shows d real integer = bit (cond (eqb (kindOf d) realKind) real integer) (bitOf d)

@@ -1,7 +1,8 @@
-// What the members of a cluster declare, by the marks of all of a kind: a detail that shows in neither
-// kind's has nothing to settle.
+// What the members of a cluster declare, by the marks of all of a kind: a detail that doesn't show in those
+// of its kind has nothing to settle (FORMAT 16).
 use oce_model::INTEGER_KIND;
 use oce_model::REAL_KIND;
+use unify::Detail;
 use unify_slots::bit_of;
 use unify_slots::is_marked;
 use unify_slots::kind_at;
@@ -9,10 +10,8 @@ use unify_slots::kind_of;
 use unify_slots::marks_at;
 ghost use mathlib.Core.Path.{_≡_};
 ghost use mathlib.Core.Bool.{_&&_};
-ghost use Prim.Native.Nat.{_≤_};
 ghost use lib.Dec.{eqb};
 ghost use lib.ListN.{length};
-ghost use Rattle.unify.specs.Slots.{displayDetail};
 ghost use Rattle.unify_slots.specs.Table.{view, Room, Inside};
 ghost use Rattle.unify_seen.specs.Seen.{TakenIn, Sees, shows};
 
@@ -52,8 +51,7 @@ pub fn seen_in(slots: usize, table: &[u64], members: &[usize]) -> Seen
 }
 
 // Some member may declare a detail.
-pub fn is_seen(seen: Seen, detail: usize) -> bool
-    requires { ⌜ detail ≤ displayDetail ⌝ }
+pub fn is_seen(seen: Seen, detail: Detail) -> bool
     ensures { λ r. ⌜ r ≡ shows detail (seen .real) (seen .integer) ⌝ }
 {
     if kind_of(detail) == REAL_KIND {

@@ -1,11 +1,11 @@
-// One detail of rule 6 over the members of one cluster: find the first declared value, ask whether all
-// agree with it, fill.
+// One detail of rule 6 over the members of one cluster (FORMAT 16): find the first declared value, ask
+// whether all agree with it, fill.
 use image_accept::Layout;
 use image_texts::same_text;
-use oce_model::MIN_BIT;
-use unify_slots::bit_of;
+use unify::Detail;
 use unify_slots::declared_at;
-use unify_slots::put_one;
+use unify_slots::is_text;
+use unify_slots::put_slot;
 ghost use mathlib.Core.Path.{_≡_};
 ghost use Prim.Native.Nat.{_+_, _≤_, _<_};
 ghost use lib.ListN.{length, getD, drop};
@@ -13,10 +13,10 @@ ghost use Rattle.base.specs.Lists.{all};
 ghost use Rattle.oce_model.specs.Format.{textTag};
 ghost use Rattle.oce_model.specs.Model.{modelOf};
 ghost use Rattle.image_accept.specs.Layout.{Laid, Tabled};
-ghost use Rattle.unify.specs.Slots.{displayDetail, agree};
-ghost use Rattle.unify.specs.Unify.{declared, conflict};
-ghost use Rattle.unify_slots.specs.Table.{view, Room, Inside, PutOne};
-ghost use Rattle.unify_settle.specs.Settle.{Ready, FirstOf, Agrees, PutAll, Settled};
+ghost use Rattle.unify.specs.Slots.{agree};
+ghost use Rattle.unify.specs.Unify.{declarations, conflict};
+ghost use Rattle.unify_slots.specs.Table.{view, Room, Inside, PutSlot};
+ghost use Rattle.unify_settle.specs.Settle.{Ready, FirstOf, Agrees, PutMembers, Settled};
 
 // The first member that declares something, and what it declares.
 pub struct First {
@@ -24,8 +24,8 @@ pub struct First {
     pub value: u64,
 }
 
-fn first_declared(slots: usize, table: &[u64], members: &[usize], detail: usize) -> First
-    requires { ⌜ Room slots (now table) × Inside slots (now members) × (detail ≤ displayDetail) ⌝ }
+fn first_declared(slots: usize, table: &[u64], members: &[usize], detail: Detail) -> First
+    requires { ⌜ Room slots (now table) × Inside slots (now members) ⌝ }
     ensures { λ r. ⌜ FirstOf detail (view slots (now (table .entry))) (now (members .entry)) (r .at) (r .value) ⌝ }
 {
     let mut i = 0;
@@ -48,14 +48,14 @@ fn agrees<'a>(
     image: &'a [u8],
     layout: Layout,
     texts: &'a [usize],
-    detail: usize,
+    detail: Detail,
     u: u64,
     v: u64,
 ) -> bool
-    requires { ⌜ Laid (now image) layout × Tabled textTag (now image) (now texts) × (detail ≤ displayDetail) ⌝ }
-    ensures { λ r. ⌜ r ≡ agree (modelOf (now (image .entry))) detail u v ⌝ }
+    requires { ⌜ Laid (now image) layout × Tabled textTag (now image) (now texts) ⌝ }
+    ensures { λ r. ⌜ r ≡ agree (modelOf (now (image .entry)) .texts) detail u v ⌝ }
 {
-    if bit_of(detail) < MIN_BIT {
+    if is_text(detail) {
         return same_text(image, layout, texts, u as usize, v as usize);
     }
     u == v
@@ -69,11 +69,11 @@ fn member_agrees<'a>(
     slots: usize,
     table: &[u64],
     j: usize,
-    detail: usize,
+    detail: Detail,
     v: u64,
 ) -> bool
-    requires { ⌜ Laid (now image) layout × Tabled textTag (now image) (now texts) × Room slots (now table) × (j < slots) × (detail ≤ displayDetail) ⌝ }
-    ensures { λ r. ⌜ Agrees (modelOf (now (image .entry))) detail v (view slots (now (table .entry))) j r ⌝ }
+    requires { ⌜ Laid (now image) layout × Tabled textTag (now image) (now texts) × Room slots (now table) × (j < slots) ⌝ }
+    ensures { λ r. ⌜ Agrees (modelOf (now (image .entry)) .texts) detail v (view slots (now (table .entry))) j r ⌝ }
 {
     let given = declared_at(slots, table, j, detail);
     if given.set {
@@ -91,11 +91,11 @@ fn all_agree<'a>(
     table: &[u64],
     members: &[usize],
     from: usize,
-    detail: usize,
+    detail: Detail,
     v: u64,
 ) -> bool
-    requires { ⌜ Ready (now image) layout (now texts) slots (now table) (now members) × (from ≤ length (now members)) × (detail ≤ displayDetail) ⌝ }
-    ensures { λ r. ⌜ r ≡ all (agree (modelOf (now (image .entry))) detail v) (declared detail (view slots (now (table .entry))) (drop from (now (members .entry)))) ⌝ }
+    requires { ⌜ Ready (now image) layout (now texts) slots (now table) (now members) × (from ≤ length (now members)) ⌝ }
+    ensures { λ r. ⌜ r ≡ all (agree (modelOf (now (image .entry)) .texts) detail v) (declarations detail (view slots (now (table .entry))) (drop from (now (members .entry)))) ⌝ }
 {
     let mut i = from;
     while i < members.len() {
@@ -110,18 +110,18 @@ fn all_agree<'a>(
 }
 
 // Member i takes v, where it is of the kind and declares nothing.
-fn put_member(slots: usize, table: &mut [u64], members: &[usize], i: usize, detail: usize, v: u64)
-    requires { ⌜ Room slots (now table) × Inside slots (now members) × (i < length (now members)) × (detail ≤ displayDetail) ⌝ }
-    ensures { λ _. ⌜ PutOne detail v slots (getD (now (members .entry)) i 0) (now (table .entry)) (now (table .exit)) ⌝ }
+fn put_member(slots: usize, table: &mut [u64], members: &[usize], i: usize, detail: Detail, v: u64)
+    requires { ⌜ Room slots (now table) × Inside slots (now members) × (i < length (now members)) ⌝ }
+    ensures { λ _. ⌜ PutSlot detail v slots (getD (now (members .entry)) i 0) (now (table .entry)) (now (table .exit)) ⌝ }
 {
     let j = members[i];
-    put_one(slots, table, j, detail, v);
+    put_slot(slots, table, j, detail, v);
 }
 
 // Each unset member takes v.
-fn put_all(slots: usize, table: &mut [u64], members: &[usize], detail: usize, v: u64)
-    requires { ⌜ Room slots (now table) × Inside slots (now members) × (detail ≤ displayDetail) ⌝ }
-    ensures { λ _. ⌜ PutAll detail v slots (now (members .entry)) (now (table .entry)) (now (table .exit)) ⌝ }
+fn put_members(slots: usize, table: &mut [u64], members: &[usize], detail: Detail, v: u64)
+    requires { ⌜ Room slots (now table) × Inside slots (now members) ⌝ }
+    ensures { λ _. ⌜ PutMembers detail v slots (now (members .entry)) (now (table .entry)) (now (table .exit)) ⌝ }
 {
     let mut i = 0;
     while i < members.len() {
@@ -138,10 +138,10 @@ pub fn decide_and_apply<'a>(
     slots: usize,
     table: &mut [u64],
     members: &[usize],
-    detail: usize,
+    detail: Detail,
 ) -> bool
-    requires { ⌜ Ready (now image) layout (now texts) slots (now table) (now members) × (detail ≤ displayDetail) ⌝ }
-    ensures { λ r. ⌜ Settled (modelOf (now (image .entry))) detail slots (now (members .entry)) (now (table .entry)) (now (table .exit)) r ⌝ }
+    requires { ⌜ Ready (now image) layout (now texts) slots (now table) (now members) ⌝ }
+    ensures { λ r. ⌜ Settled (modelOf (now (image .entry)) .texts) detail slots (now (members .entry)) (now (table .entry)) (now (table .exit)) r ⌝ }
 {
     let first = first_declared(slots, table, members, detail);
     let at = first.at;
@@ -160,7 +160,7 @@ pub fn decide_and_apply<'a>(
         detail,
         v,
     ) {
-        put_all(slots, table, members, detail, v);
+        put_members(slots, table, members, detail, v);
         return false;
     }
     true
@@ -174,10 +174,10 @@ pub fn diverges<'a>(
     slots: usize,
     table: &[u64],
     members: &[usize],
-    detail: usize,
+    detail: Detail,
 ) -> bool
-    requires { ⌜ Ready (now image) layout (now texts) slots (now table) (now members) × (detail ≤ displayDetail) ⌝ }
-    ensures { λ r. ⌜ r ≡ conflict (modelOf (now (image .entry))) detail (declared detail (view slots (now (table .entry))) (now (members .entry))) ⌝ }
+    requires { ⌜ Ready (now image) layout (now texts) slots (now table) (now members) ⌝ }
+    ensures { λ r. ⌜ r ≡ conflict (modelOf (now (image .entry)) .texts) detail (declarations detail (view slots (now (table .entry))) (now (members .entry))) ⌝ }
 {
     let first = first_declared(slots, table, members, detail);
     let at = first.at;
@@ -185,18 +185,14 @@ pub fn diverges<'a>(
         return false;
     }
     let v = first.value;
-    if all_agree(
-        image,
-        layout,
-        texts,
-        slots,
-        table,
-        members,
-        at + 1,
-        detail,
-        v,
-    ) {
-        return false;
+    let mut i = at + 1;
+    while i < members.len() {
+        let j = members[i];
+        if member_agrees(image, layout, texts, slots, table, j, detail, v) {
+            i += 1;
+        } else {
+            return true;
+        }
     }
-    true
+    false
 }

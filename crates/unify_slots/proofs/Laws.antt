@@ -1,7 +1,7 @@
 -- Laws of the table of slots.
 use mathlib.Core.Path.{_≡_, refl, sym, ap, _∙_}
 use mathlib.Core.Logic.{_≢_}
-use mathlib.Core.Bool.{Bool, true, false, cond, _&&_}
+use mathlib.Core.Bool.{Bool, true, false, cond}
 use mathlib.Core.List.{List, [], _∷_, _++_}
 use mathlib.Core.Option.{none}
 use Prim.Native.Nat.{ℕ, _+_, _*_, _^_, _<_}
@@ -18,8 +18,10 @@ use Rattle.numbers.specs.Bytes.{bit, signed64, real64}
 use Rattle.oce_model.specs.Format.{quantityBit, unitBit, displayUnitBit, minBit, maxBit, nominalBit}
 use Rattle.oce_model.specs.Attributes.{Attrs, noAttrs, num, marked, declaredAt, declareAt}
 use Rattle.image_records.specs.Records.{realAttrs, intAttrs}
-use Rattle.unify.specs.Slots.{Slots, slot, kindOf, bitOf, value, put}
-use Rattle.unify_slots.specs.Table.{width, numberCount, kindPlace, marksPlace, attrsOf, view, declares, Room, Declared, PutOne}
+use Rattle.unify.specs.Details.{kindOf, bitOf}
+use Rattle.unify.specs.Slots.{Slots, slot, value, put}
+use Rattle.unify.specs.declared.Detail.{Detail}
+use Rattle.unify_slots.specs.Table.{width, numberCount, kindPlace, marksPlace, attrsOf, view, Room, Declared, PutSlot}
 
 -- ---- reading
 
@@ -55,24 +57,33 @@ pub int-parts : (a : Attrs) {m x y : ℕ} {f g : ℤ} → m ≡ a .marks → x �
 unfolding intAttrs
 int-parts a em ex ef ey eg = rw (em, ef, ex, eg, ey)
 
--- what attributes declare, by their kind and marks
-pub value-declares : (d : ℕ) (a : Attrs) → value d a ≡ marked (declares d (a .kind) (a .marks)) (num a (bitOf d))
-unfolding value declares declaredAt
-value-declares d a = arm (eqb (a .kind) (kindOf d))
-  where
-    arm : (b : Bool) → cond b (marked (bit (a .marks) (bitOf d)) (num a (bitOf d))) none ≡ marked (b && bit (a .marks) (bitOf d)) (num a (bitOf d))
-    arm true = refl
-    arm false = refl
+-- what attributes declare for a detail: nothing where they are of another kind or its bit isn't set, else the number under the bit
+value-other : (d : Detail) (a : Attrs) → eqb (a .kind) (kindOf d) ≡ false → value d a ≡ none
+unfolding value
+value-other d a e = rw e
 
-module _ (n : ℕ) (table : List ℕ) (j d : ℕ) {k m : ℕ} {r : Bool} (ek : k ≡ slot (view n table) j .kind) (em : m ≡ slot (view n table) j .marks) (er : r ≡ declares d k m) where
-  declares-so : declares d (slot (view n table) j .kind) (slot (view n table) j .marks) ≡ r
-  declares-so = cc
+value-marked : (d : Detail) (a : Attrs) → eqb (a .kind) (kindOf d) ≡ true → {r : Bool} → bit (a .marks) (bitOf d) ≡ r → value d a ≡ marked r (num a (bitOf d))
+unfolding value declaredAt
+value-marked d a e f = rw (e, f)
 
-  pub given-none : (v : ℕ) → r ≡ false → Declared d n table j false v
-  given-none v e = record { is = value-declares d (slot (view n table) j) ∙ rw (declares-so, e) }
+module _ (n : ℕ) (table : List ℕ) (j : ℕ) (d : Detail) {k x : ℕ} (ex : x ≡ slot (view n table) j .kind) (ek : k ≡ kindOf d) where
+  pub given-other : (v : ℕ) → (x ≡ k → ⊥) → Declared d n table j false v
+  given-other v o =
+      let a = slot (view n table) j in
+      record { is = value-other d a (ne-eqb (a .kind) (kindOf d) (λ e. o (ex ∙ e ∙ sym ek))) }
 
-  pub given-some : {p v : ℕ} → r ≡ true → p ≡ bitOf d → v ≡ num (slot (view n table) j) p → Declared d n table j true v
-  given-some e ep ev = record { is = value-declares d (slot (view n table) j) ∙ rw (declares-so, e, ev, ep) }
+  module _ {p m : ℕ} {r : Bool} (ep : p ≡ bitOf d) (em : m ≡ slot (view n table) j .marks) (er : r ≡ bit m p) (f : x ≡ k) where
+    given : value d (slot (view n table) j) ≡ marked r (num (slot (view n table) j) (bitOf d))
+    given =
+        let a = slot (view n table) j in
+        let b : bit (a .marks) (bitOf d) ≡ r = cc in
+        value-marked d a (eq-eqb (a .kind) (kindOf d) (sym ex ∙ f ∙ ek)) b
+
+    pub given-none : (v : ℕ) → r ≡ false → Declared d n table j false v
+    given-none v e = record { is = given ∙ rw e }
+
+    pub given-some : {v : ℕ} → r ≡ true → v ≡ num (slot (view n table) j) p → Declared d n table j true v
+    given-some e ev = record { is = given ∙ rw (e, ev, ep) }
 
 -- ---- writing
 
@@ -137,11 +148,11 @@ unfolding slot
 kept σ j e = sym (rw e (set-getD σ j noAttrs))
 
 -- what `put` does, by kind and marks
-put-other-kind : (d v : ℕ) (a : Attrs) → eqb (a .kind) (kindOf d) ≡ false → put d v a ≡ a
+put-other-kind : (d : Detail) (v : ℕ) (a : Attrs) → eqb (a .kind) (kindOf d) ≡ false → put d v a ≡ a
 unfolding put
 put-other-kind d v a e = rw e
 
-put-set : (d v : ℕ) (a : Attrs) → bit (a .marks) (bitOf d) ≡ true → put d v a ≡ a
+put-set : (d : Detail) (v : ℕ) (a : Attrs) → bit (a .marks) (bitOf d) ≡ true → put d v a ≡ a
 unfolding put declaredAt
 put-set d v a e = rw e (arm (eqb (a .kind) (kindOf d)))
   where
@@ -149,12 +160,12 @@ put-set d v a e = rw e (arm (eqb (a .kind) (kindOf d)))
     arm true = refl
     arm false = refl
 
-put-unset : (d v : ℕ) (a : Attrs) → eqb (a .kind) (kindOf d) ≡ true → bit (a .marks) (bitOf d) ≡ false → put d v a ≡ declareAt a (bitOf d) v
+put-unset : (d : Detail) (v : ℕ) (a : Attrs) → eqb (a .kind) (kindOf d) ≡ true → bit (a .marks) (bitOf d) ≡ false → put d v a ≡ declareAt a (bitOf d) v
 unfolding put declaredAt
 put-unset d v a e f = rw (e, f)
 
-module _ (n : ℕ) (table : List ℕ) (j d v : ℕ) {k x : ℕ} (ex : x ≡ slot (view n table) j .kind) (ek : k ≡ kindOf d) where
-  pub put-other : (x ≡ k → ⊥) → PutOne d v n j table table
+module _ (n : ℕ) (table : List ℕ) (j : ℕ) (d : Detail) (v : ℕ) {k x : ℕ} (ex : x ≡ slot (view n table) j .kind) (ek : k ≡ kindOf d) where
+  pub put-other : (x ≡ k → ⊥) → PutSlot d v n j table table
   put-other o =
       let a = slot (view n table) j in
       record { slots = kept (view n table) j (put-other-kind d v a (ne-eqb (a .kind) (kindOf d) (λ e. o (ex ∙ e ∙ sym ek)))) }
@@ -163,11 +174,11 @@ module _ (n : ℕ) (table : List ℕ) (j d v : ℕ) {k x : ℕ} (ex : x ≡ slot
     bit-so : bit (slot (view n table) j .marks) (bitOf d) ≡ r
     bit-so = cc
 
-    pub put-marked : r ≡ true → PutOne d v n j table table
+    pub put-marked : r ≡ true → PutSlot d v n j table table
     put-marked e = record { slots = kept (view n table) j (put-set d v (slot (view n table) j) (bit-so ∙ e)) }
 
     pub put-new : {w : ℕ} → Room n table → j < n → x ≡ k → p < numberCount → r ≡ false → w ≡ m + 2 ^ p
-        → PutOne d v n j table (set (set table (width * j + marksPlace) w) (width * j + p) v)
+        → PutSlot d v n j table (set (set table (width * j + marksPlace) w) (width * j + p) v)
     put-new room h f l e ew =
         let a = slot (view n table) j in
         let q : put d v a ≡ declareAt a p v = rw ep (put-unset d v a (eq-eqb (a .kind) (kindOf d) (sym ex ∙ f ∙ ek)) (bit-so ∙ e)) in

@@ -1,4 +1,3 @@
 pub mod Laws
 pub mod Marks
-pub mod Model
 pub mod Loading

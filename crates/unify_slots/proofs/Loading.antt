@@ -13,14 +13,14 @@ use Rattle.base.proofs.Buffers.{patch-inside, patch-before, patch-paste}
 use Rattle.numbers.specs.Bytes.{byte, le16, le64}
 use Rattle.oce_model.specs.Format.{attrsMarksAt, attrsQuantityAt, attrsUnitAt, attrsDisplayUnitAt, attrsMinAt, attrsMaxAt, attrsNominalAt}
 use Rattle.oce_model.specs.Attributes.{Attrs, noAttrs, attrsAt}
-use Rattle.oce_model.specs.Model.{Model, modelOf, connector, boundaryOutput}
+use Rattle.oce_model.specs.Model.{Model, modelOf, connector, boundaryOutput, connectorCount}
 use Rattle.image_accept.specs.Layout.{Laid}
 use Rattle.image_accept.specs.declared.Layout.{Layout}
 use Rattle.unify.specs.Slots.{slotsOf, slot}
+use Rattle.unify.proofs.Slots.{slot-connector, slot-out, slots-length}
 use Rattle.unify_slots.specs.Table.{width, numberCount, kindPlace, marksPlace, attrsOf, view, slotCount, Room}
 use Rattle.unify_slots.proofs.Laws.{view-next}
 use Rattle.image_records.proofs.Laws.{connectors-counted, outputs-counted, connectors-few, boundary-outputs-few}
-use Rattle.unify_slots.proofs.Model.{slot-connector, slot-output, slots-length}
 use Rattle.unify_slots.specs.Loading.{Loaded, Read}
 
 -- ---- one slot
@@ -87,15 +87,18 @@ slot-loaded s at j {table} {a} {b} {c} {d} {e} {g} {k} {m} {r} room er ea eb ec 
 
 -- ---- the slot of a connector, of a boundary output
 
+slot-output : (m : Model) (j : ℕ) → connectorCount m ≤ j → slot (slotsOf m) j ≡ boundaryOutput m (j - connectorCount m) .attrs
+slot-output m j h = let e : j ≡ connectorCount m + (j - connectorCount m) = omega arith in ap (slot (slotsOf m)) e ∙ slot-out m (j - connectorCount m)
+
 module _ {s : List ℕ} {l : Layout} (h : Laid s l) {j : ℕ} (at : ℕ) {table table′ : List ℕ} where
   pub connector-loaded : Loaded j (attrsAt s at) table table′ → attrsAt s at ≡ connector (modelOf s) j .attrs → j < l .connectors .count
       → Loaded j (slot (slotsOf (modelOf s)) j) table table′
   connector-loaded v e k = record { slot = v .slot ∙ e ∙ sym (slot-connector (modelOf s) j (rw (connectors-counted h) at k)); before = v .before }
 
   pub output-loaded : Loaded j (attrsAt s at) table table′ → attrsAt s at ≡ boundaryOutput (modelOf s) (j - l .connectors .count) .attrs → l .connectors .count ≤ j
-      → j < slotCount (modelOf s) → Loaded j (slot (slotsOf (modelOf s)) j) table table′
-  output-loaded v e k b = record {
-    slot = v .slot ∙ e ∙ rw (connectors-counted h) (sym (slot-output (modelOf s) j (rw (connectors-counted h) at k) b));
+      → Loaded j (slot (slotsOf (modelOf s)) j) table table′
+  output-loaded v e k = record {
+    slot = v .slot ∙ e ∙ rw (connectors-counted h) (sym (slot-output (modelOf s) j (rw (connectors-counted h) at k)));
     before = v .before;
   }
 

@@ -1,4 +1,4 @@
--- A table that holds the slots of a model.
+-- A table that holds the slots of a model (FORMAT 15).
 use Prim.Native.Nat.{ℕ}
 use mathlib.Core.Path.{_≡_}
 use mathlib.Core.List.{List}

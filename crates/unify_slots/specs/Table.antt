@@ -1,15 +1,14 @@
--- The slots of rule 6 as code holds them: one table, eight places a slot. The six numbers of its attributes stand at the places of their bits, its kind and its marks behind them.
+-- The slots of rule 6 (FORMAT 15) as code holds them: one table, eight places a slot. The six numbers of its attributes stand at the places of their bits, its kind and its marks behind them.
 use Prim.Native.Nat.{ℕ, _+_, _*_, _≤_, _<_}
 use mathlib.Core.Path.{_≡_}
-use mathlib.Core.Bool.{Bool, _&&_}
+use mathlib.Core.Bool.{Bool}
 use mathlib.Core.List.{List}
 use lib.ListN.{length, getD, set}
-use lib.Dec.{eqb}
 use Rattle.base.specs.Lists.{tab}
-use Rattle.numbers.specs.Bytes.{bit}
 use Rattle.oce_model.specs.Attributes.{Attrs, marked}
 use Rattle.oce_model.specs.Model.{Model, connectorCount, boundaryOutputCount}
-use Rattle.unify.specs.Slots.{Slots, slot, kindOf, bitOf, value, put}
+use Rattle.unify.specs.Slots.{Slots, slot, value, put}
+use Rattle.unify.specs.declared.Detail.{Detail}
 
 -- the places that a slot has
 abbrev pub width : ℕ
@@ -46,10 +45,6 @@ slotCount m = connectorCount m + boundaryOutputCount m
 pub record Room (n : ℕ) (table : List ℕ) : Type 0 where
   pub fits : width * n ≤ length table
 
--- attributes of kind k with marks m declare something for detail d
-unfoldable pub declares : ℕ → ℕ → ℕ → Bool
-declares d k m = eqb k (kindOf d) && bit m (bitOf d)
-
 -- every member of a list is one of n slots
 pub record Inside (n : ℕ) (js : List ℕ) : Type 0 where
   pub each : (i : ℕ) → i < length js → getD js i 0 < n
@@ -57,9 +52,9 @@ pub record Inside (n : ℕ) (js : List ℕ) : Type 0 where
 -- ---- what the code's steps give
 
 -- what slot j declares for detail d: v, where `is-set` says that there is something
-pub record Declared (d n : ℕ) (table : List ℕ) (j : ℕ) (is-set : Bool) (v : ℕ) : Type 0 where
+pub record Declared (d : Detail) (n : ℕ) (table : List ℕ) (j : ℕ) (is-set : Bool) (v : ℕ) : Type 0 where
   pub is : value d (slot (view n table) j) ≡ marked is-set v
 
 -- slot j has taken v for detail d, where it is of the kind and declared nothing
-pub record PutOne (d v n j : ℕ) (table table′ : List ℕ) : Type 0 where
+pub record PutSlot (d : Detail) (v n j : ℕ) (table table′ : List ℕ) : Type 0 where
   pub slots : view n table′ ≡ set (view n table) j (put d v (slot (view n table) j))

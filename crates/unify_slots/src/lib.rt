@@ -1,4 +1,5 @@
-// The slots of rule 6 in one table: eight places a slot, six numbers, its kind and its marks.
+// The slots of rule 6 (FORMAT 15) in one table: eight places a slot, six numbers, its kind and its marks.
+// And what the table of FORMAT 16 says of each detail.
 use image_accept::Layout;
 use image_records::boundary_output_attrs;
 use image_records::connector_attrs;
@@ -26,6 +27,7 @@ use oce_model::QUANTITY_BIT;
 use oce_model::REAL_KIND;
 use oce_model::RealAttrs;
 use oce_model::UNIT_BIT;
+use unify::Detail;
 ghost use mathlib.Core.Path.{_≡_};
 ghost use mathlib.Core.Bool.{false};
 ghost use Prim.Native.Nat.{_+_, _^_, _≤_, _<_};
@@ -36,8 +38,9 @@ ghost use Rattle.oce_model.specs.Attributes.{num, attrsAt};
 ghost use Rattle.oce_model.specs.Model.{modelOf};
 ghost use Rattle.image_accept.specs.Layout.{Laid};
 ghost use Rattle.image_records.specs.Records.{realAttrs, intAttrs};
-ghost use Rattle.unify.specs.Slots.{slot, displayDetail, kindOf, bitOf, slotsOf};
-ghost use Rattle.unify_slots.specs.Table.{numberCount, view, declares, Room, Declared, PutOne, slotCount};
+ghost use Rattle.unify.specs.Details.{detailNumber, kindOf, bitOf, isText};
+ghost use Rattle.unify.specs.Slots.{slot, slotsOf};
+ghost use Rattle.unify_slots.specs.Table.{numberCount, view, Room, Declared, PutSlot, slotCount};
 ghost use Rattle.unify_slots.specs.Loading.{Loaded, Read};
 
 // The places that a slot has in the table: its numbers stand at the places of their bits.
@@ -56,31 +59,63 @@ pub struct Given {
 
 // ---- details
 
-// The kind that a detail is an attribute of: 5 and 6 are the ends of an Integer.
-pub fn kind_of(detail: usize) -> usize
-    requires { ⌜ detail ≤ displayDetail ⌝ }
+// Its number in a report.
+pub fn detail_number(detail: Detail) -> u8
+    ensures { λ r. ⌜ r ≡ detailNumber detail ⌝ }
+{
+    match detail {
+        Detail::Unit => 1,
+        Detail::Quantity => 2,
+        Detail::RealMin => 3,
+        Detail::RealMax => 4,
+        Detail::IntegerMin => 5,
+        Detail::IntegerMax => 6,
+        Detail::DisplayUnit => 7,
+    }
+}
+
+// The kind that it is an attribute of.
+pub fn kind_of(detail: Detail) -> usize
     ensures { λ r. ⌜ r ≡ kindOf detail ⌝ }
 {
     match detail {
-        5 | 6 => INTEGER_KIND,
-        _ => REAL_KIND,
+        Detail::Unit => REAL_KIND,
+        Detail::Quantity => REAL_KIND,
+        Detail::RealMin => REAL_KIND,
+        Detail::RealMax => REAL_KIND,
+        Detail::IntegerMin => INTEGER_KIND,
+        Detail::IntegerMax => INTEGER_KIND,
+        Detail::DisplayUnit => REAL_KIND,
     }
 }
 
 // The bit that marks it there.
-pub fn bit_of(detail: usize) -> usize
-    requires { ⌜ detail ≤ displayDetail ⌝ }
+pub fn bit_of(detail: Detail) -> usize
     ensures { λ r. ⌜ (r ≡ bitOf detail) × (r < numberCount) ⌝ }
 {
     match detail {
-        1 => UNIT_BIT,
-        2 => QUANTITY_BIT,
-        3 => MIN_BIT,
-        4 => MAX_BIT,
-        5 => MIN_BIT,
-        6 => MAX_BIT,
-        7 => DISPLAY_UNIT_BIT,
-        _ => 0,
+        Detail::Unit => UNIT_BIT,
+        Detail::Quantity => QUANTITY_BIT,
+        Detail::RealMin => MIN_BIT,
+        Detail::RealMax => MAX_BIT,
+        Detail::IntegerMin => MIN_BIT,
+        Detail::IntegerMax => MAX_BIT,
+        Detail::DisplayUnit => DISPLAY_UNIT_BIT,
+    }
+}
+
+// Its values are texts.
+pub fn is_text(detail: Detail) -> bool
+    ensures { λ r. ⌜ r ≡ isText detail ⌝ }
+{
+    match detail {
+        Detail::Unit => true,
+        Detail::Quantity => true,
+        Detail::RealMin => false,
+        Detail::RealMax => false,
+        Detail::IntegerMin => false,
+        Detail::IntegerMax => false,
+        Detail::DisplayUnit => true,
     }
 }
 
@@ -100,17 +135,6 @@ fn with_mark(marks: u64, p: usize) -> u64
     ensures { λ r. ⌜ r ≡ marks + 2 ^ p ⌝ }
 {
     marks + (1u64 << p)
-}
-
-// Attributes of this kind with these marks declare something for a detail.
-fn is_declared(kind: usize, marks: u64, detail: usize) -> bool
-    requires { ⌜ detail ≤ displayDetail ⌝ }
-    ensures { λ r. ⌜ r ≡ declares detail kind marks ⌝ }
-{
-    if kind == kind_of(detail) {
-        return is_marked(marks, bit_of(detail));
-    }
-    false
 }
 
 // ---- one slot
@@ -168,14 +192,18 @@ pub fn int_at(slots: usize, table: &[u64], j: usize) -> IntAttrs
 }
 
 // What slot j declares for a detail.
-pub fn declared_at(slots: usize, table: &[u64], j: usize, detail: usize) -> Given
-    requires { ⌜ Room slots (now table) × (j < slots) × (detail ≤ displayDetail) ⌝ }
+pub fn declared_at(slots: usize, table: &[u64], j: usize, detail: Detail) -> Given
+    requires { ⌜ Room slots (now table) × (j < slots) ⌝ }
     ensures { λ r. ⌜ Declared detail slots (now (table .entry)) j (r .set) (r .value) ⌝ }
 {
-    let kind = kind_at(slots, table, j);
-    let marks = marks_at(slots, table, j);
-    if is_declared(kind, marks, detail) {
-        let p = bit_of(detail);
+    if kind_at(slots, table, j) != kind_of(detail) {
+        return Given {
+            set: false,
+            value: 0,
+        };
+    }
+    let p = bit_of(detail);
+    if is_marked(marks_at(slots, table, j), p) {
         return Given {
             set: true,
             value: number(slots, table, j, p),
@@ -188,9 +216,9 @@ pub fn declared_at(slots: usize, table: &[u64], j: usize, detail: usize) -> Give
 }
 
 // Slot j takes v for a detail, where it is of the kind and declares nothing.
-pub fn put_one(slots: usize, table: &mut [u64], j: usize, detail: usize, v: u64)
-    requires { ⌜ Room slots (now table) × (j < slots) × (detail ≤ displayDetail) ⌝ }
-    ensures { λ _. ⌜ PutOne detail v slots j (now (table .entry)) (now (table .exit)) ⌝ }
+pub fn put_slot(slots: usize, table: &mut [u64], j: usize, detail: Detail, v: u64)
+    requires { ⌜ Room slots (now table) × (j < slots) ⌝ }
+    ensures { λ _. ⌜ PutSlot detail v slots j (now (table .entry)) (now (table .exit)) ⌝ }
 {
     if kind_at(slots, table, j) != kind_of(detail) {
         return;

@@ -1,6 +1,6 @@
 -- `unify_cluster::cluster` meets its contract.
 use borrow.Author.Needs.{needs}
-use Rattle.unify_cluster.proofs.Laws.{cluster-skip}
+use Rattle.unify_cluster.proofs.Laws.{cluster-skip, unseen-seen}
 use Rattle.unify_cluster.proofs.cluster.Statement.{statement}
 use Rattle.unify_cluster.proofs.cluster.Tie as tie
 
@@ -12,7 +12,7 @@ cluster-spec =
     (λ c κs. search needs)
     (λ c. search needs)
     (λ c. search (cluster-skip, needs))
-    (λ c κs. search needs)
+    (λ c κs. search (unseen-seen, needs))
     (λ c. search needs)
     (λ c. search needs)
     (λ c. search needs))

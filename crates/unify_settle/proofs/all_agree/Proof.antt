@@ -10,7 +10,7 @@ use Rattle.unify_settle.proofs.all_agree.Statement.{statement}
 use Rattle.unify_settle.proofs.all_agree.Tie as tie
 
 abbrev Inv-loop : tie.InvT-loop
-Inv-loop image layout texts n table members from detail v i₀ i = Alike (modelOf image) detail v (view n table) members from i
+Inv-loop image layout texts n table members from detail v i₀ i = Alike (modelOf image .texts) detail v (view n table) members from i
 
 abbrev μ-loop : tie.MeasureT-loop
 μ-loop image layout texts n table members from detail v i₀ i = length members - i
