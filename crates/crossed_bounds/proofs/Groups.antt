@@ -4,7 +4,7 @@ use mathlib.Core.Path.{_≡_, refl, sym, ap, _∙_}
 use mathlib.Core.Bool.{Bool, true, false, cond, _||_, or-true, false≢true}
 use mathlib.Core.Logic.{_⊎_, inl, inr}
 use mathlib.Core.List.{List, [], _∷_, _++_, append-nil, append-assoc, List·Memᴰ, List·Memᴰ·not-nil, List·Memᴰ·head, List·Memᴰ·tail, List·Memᴰ·cases-cons, List·Memᴰ·append-cases, Memᴰ·append-left, Memᴰ·append-right}
-use Rattle.base.specs.Lists.{each, tab, keep, any, only, same}
+use Rattle.base.specs.Lists.{keep, any, only, same}
 use Rattle.base.proofs.Lists.{keep-append, same-refl, same-sound}
 use Rattle.base.proofs.Members.{mem-each, mem-only}
 use Rattle.oce_model.specs.Texts.{order, isEqual}
@@ -14,6 +14,14 @@ use Rattle.oce_model.specs.declared.Ordering.the-variants.{Less, Equal, Greater
 use Rattle.oce_model.proofs.Order.{order-flip, flip, order-equal, less-less, equal-same, less-differs}
 use Rattle.crossed_bounds.specs.Groups.{Group, members, alone, joined, byOrder, enter, enterAll, extend, extendAll, withKey, KeysBehind, KeysAscend}
 use Rattle.crossed_bounds.specs.CrossedBounds.{memberKey, joins, connectorMembers, inputMembers, groups}
+
+-- a group is its members
+of-members : (g h : Group) → members g ≡ members h → g ≡ h
+of-members g h e = ap group e
+  where
+    group : List ℕ → Group
+    group [] = alone 0
+    group (x ∷ xs) = record { first = x; others = xs }
 
 module _ (key : ℕ → List ℕ) where
   -- ---- keys ascend, whoever joins
@@ -348,6 +356,9 @@ module _ (key : ℕ → List ℕ) where
         let k = key (g .first) in
         sym (own-gathered g after grouped-ascend p) ∙ after-gathered k (sym (extendAll-has k before ys) ∙ own-has g after p)
 
+    pub grouped-distinct : (g h : Group) → List·Memᴰ g after → List·Memᴰ h after → key (g .first) ≡ key (h .first) → g ≡ h
+    grouped-distinct g h p q e = of-members g h (grouped-exact g p ∙ ap (λ k. withKey key k (xs ++ ys)) e ∙ sym (grouped-exact h q))
+
     pub grouped-opened : (g : Group) → List·Memᴰ g after → List·Memᴰ (g .first) xs
     grouped-opened g p =
         let P : ℕ → Type 0 = λ x. List·Memᴰ x xs in
@@ -363,10 +374,12 @@ module _ (key : ℕ → List ℕ) where
 -- ---- a model's groups
 
 pub record ByKey (m : Model) : Type 0 where
-  -- the keys ascend by their bytes, so no two groups have one key
+  -- the keys ascend by their bytes
   pub ascend : KeysAscend (memberKey m) (groups m)
   -- the members of a group are exactly those with its key: of the Ins with an iri, and behind them of the boundary inputs, in their order
   pub exact : (g : Group) → List·Memᴰ g (groups m) → members g ≡ withKey (memberKey m) (memberKey m (g .first)) (connectorMembers m ++ inputMembers m)
+  -- two groups with one key are the same
+  pub distinct : (g h : Group) → List·Memᴰ g (groups m) → List·Memᴰ h (groups m) → memberKey m (g .first) ≡ memberKey m (h .first) → g ≡ h
   -- a group's first member is an In with an iri: a boundary input opens none
   pub opened : (g : Group) → List·Memᴰ g (groups m) → List·Memᴰ (g .first) (connectorMembers m)
   -- every In with an iri is in a group
@@ -377,6 +390,7 @@ unfolding groups
 by-key m = record {
   ascend = grouped-ascend (memberKey m) (connectorMembers m) (inputMembers m);
   exact = grouped-exact (memberKey m) (connectorMembers m) (inputMembers m);
+  distinct = grouped-distinct (memberKey m) (connectorMembers m) (inputMembers m);
   opened = grouped-opened (memberKey m) (connectorMembers m) (inputMembers m);
   everyone = λ i l j. grouped-in (memberKey m) (connectorMembers m) (inputMembers m) i (mem-each (connectorCount m) (λ i. only (joins (connector m i)) i) i i l (mem-only (joins (connector m i)) i j));
 }

@@ -76,17 +76,17 @@ higher None y = y
 higher (Value a) None = Value a
 higher (Value a) (Value b) = Value (cond (lt a b) b a)
 
--- of two Real maxes
+-- of two Real maxes likewise
 unfoldable pub lower : End → End → End
 lower None y = y
 lower (Value a) None = Value a
 lower (Value a) (Value b) = Value (cond (lt b a) b a)
 
--- of two Integer mins
+-- of two Integer mins likewise
 unfoldable pub higherInteger : ℤ → ℤ → ℤ
 higherInteger a b = cond (ltZ a b) b a
 
--- of two Integer maxes
+-- of two Integer maxes likewise
 unfoldable pub lowerInteger : ℤ → ℤ → ℤ
 lowerInteger a b = cond (ltZ b a) b a
 
@@ -104,7 +104,7 @@ unfoldable pub uncrossed : Range → Range
 uncrossed Absent = Absent
 uncrossed (Within b) = cond (crossedBounds b) Absent (Within b)
 
--- the same, where the second may have none
+-- the intersection of a range and one that may be absent
 abbrev pub intersectWith : Bounds → Range → Range
 intersectWith b Absent = Absent
 intersectWith b (Within c) = intersect b c
@@ -114,7 +114,7 @@ unfoldable pub takeIn : Range → Range → Range
 takeIn Absent r = Absent
 takeIn (Within b) r = intersectWith b (uncrossed r)
 
--- and more members
+-- the same with more members
 unfoldable pub takeInAll : Range → List Range → Range
 takeInAll kept [] = kept
 takeInAll kept (r ∷ rs) = takeInAll (takeIn kept r) rs

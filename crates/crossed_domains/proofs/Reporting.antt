@@ -68,7 +68,7 @@ module _ (m : Model) where
   faults-last fs g = faults-append fs (g ∷ []) ∙ rw (append-nil (groupFaults m g))
 
 -- i of the sorted members are taken in: the runs before the open one are reported, and p is kept of that; n is the number of members
-pub record Passed (m : Model) (n : ℕ) (xs b₀ : List ℕ) (c₀ : Counted) (b : List ℕ) (p : Pass) (i : ℕ) : Type 0 where
+pub record MembersPassed (m : Model) (n : ℕ) (xs b₀ : List ℕ) (c₀ : Counted) (b : List ℕ) (p : Pass) (i : ℕ) : Type 0 where
   pub group : Group
   pub done : List Group
   pub within : i ≤ length xs
@@ -92,7 +92,7 @@ runs-start key (x ∷ xs) h = refl
 
 module _ {m : Model} {n : ℕ} {xs b₀ : List ℕ} where
   pub passed-start : (c : Counted) {p : Pass} {e : Bool} {q : Range} → p ≡ opened c (getD xs 0 0) e q → e ≡ memberExternal m (getD xs 0 0) → q ≡ memberRange m (getD xs 0 0) → AllMembers n xs → length xs ≢ 0
-      → Passed m n xs b₀ (p .counted) b₀ p 1
+      → MembersPassed m n xs b₀ (p .counted) b₀ p 1
   unfolding opened groupsFaults
   passed-start c {p} f e q a z =
       let h : 0 < length xs = omega arith in
@@ -115,7 +115,7 @@ module _ {m : Model} {n : ℕ} {xs b₀ : List ℕ} where
       }
 
 module _ {m : Model} {n : ℕ} {xs b₀ : List ℕ} {c₀ : Counted} where
-  pub passed-turn : {b b′ : List ℕ} {p r : Pass} {i : ℕ} → Passed m n xs b₀ c₀ b p i → Stepped m p (getD xs i 0) b b′ r → AllMembers n xs → i < length xs → Passed m n xs b₀ c₀ b′ r (i + 1)
+  pub passed-turn : {b b′ : List ℕ} {p r : Pass} {i : ℕ} → MembersPassed m n xs b₀ c₀ b p i → Stepped m p (getD xs i 0) b b′ r → AllMembers n xs → i < length xs → MembersPassed m n xs b₀ c₀ b′ r (i + 1)
   unfolding runsFrom grown opened sameKey passOf
   passed-turn {b} {b′} {p} {r} {i} v s a h = go (sameKey m (p .first) x) refl
     where
@@ -138,7 +138,7 @@ module _ {m : Model} {n : ℕ} {xs b₀ : List ℕ} {c₀ : Counted} where
           ≡ v .done ++ cond (isEqual (order (memberKey m (g .first)) (memberKey m x))) (runsFrom (memberKey m) (joined g x) (drop (i + 1) xs)) (g ∷ runsFrom (memberKey m) (alone x) (drop (i + 1) xs))
       cut = v .split ∙ rw (drop-cons xs i 0 h, add-one i)
 
-      go : (t : Bool) → sameKey m (p .first) x ≡ t → Passed m n xs b₀ c₀ b′ r (i + 1)
+      go : (t : Bool) → sameKey m (p .first) x ≡ t → MembersPassed m n xs b₀ c₀ b′ r (i + 1)
       go true t =
           let q : Put b (p .counted) [] b′ (r .counted) = rw t at (s .put) in
           let o : r ≡ grown p (memberExternal m x) (memberRange m x) = rw t at (s .next) in
@@ -173,7 +173,7 @@ module _ {m : Model} {n : ℕ} {xs b₀ : List ℕ} {c₀ : Counted} where
             split = cut ∙ rw (test false t) (sym (append-assoc (v .done) (g ∷ []) (runsFrom (memberKey m) (alone x) (drop (i + 1) xs))));
           }
 
-module _ {m : Model} {n : ℕ} {xs b₀ : List ℕ} {c₀ : Counted} {b : List ℕ} {p : Pass} {i : ℕ} (v : Passed m n xs b₀ c₀ b p i) where
+module _ {m : Model} {n : ℕ} {xs b₀ : List ℕ} {c₀ : Counted} {b : List ℕ} {p : Pass} {i : ℕ} (v : MembersPassed m n xs b₀ c₀ b p i) where
   pub passed-length : length b ≡ length b₀
   passed-length = put-length (v .put)
 

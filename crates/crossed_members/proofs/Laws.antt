@@ -9,6 +9,7 @@ use lib.Dec.{eqb}
 use borrow.Author.Tests.{eq-eqb, ne-eqb, lt-ltb, le-ltb}
 use Rattle.base.specs.Lists.{below}
 use Rattle.base.proofs.Lists.{below-next, below-some}
+use Rattle.numbers.specs.Bytes.{wordRange}
 use Rattle.oce_model.specs.Format.{dirIn, noText}
 use Rattle.oce_model.specs.Attributes.{Attrs}
 use Rattle.oce_model.specs.Model.{Model, modelOf, connector, boundaryInput, isConnector}
@@ -28,7 +29,7 @@ use Rattle.crossed_members.specs.Members.{memberRange, memberJoins}
 module _ {s : List ℕ} {l : Layout} (h : Laid s l) {x : ℕ} where
   module _ (k : x < l .connectors .count) where
     -- a connector's number fits an id
-    pub connector-small : x < 4294967296
+    pub connector-small : x < wordRange
     connector-small = omega (arith, connector-near h k)
 
     inside : isConnector (modelOf s) x ≡ true

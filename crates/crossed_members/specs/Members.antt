@@ -1,4 +1,4 @@
--- The members of the groups of rule 5.4 by number, and which of them take part.
+-- The members of the groups of rule 5.4 by number, and which of them take part. FORMAT 14.
 use Prim.Native.Nat.{ℕ, _+_, _<_}
 use mathlib.Core.Bool.{Bool, true, cond}
 use mathlib.Core.List.{List}

@@ -82,7 +82,7 @@ past s t (suc k) f l n = arm (leb (endOf f) (length s)) n (past s t k (after s f
 -- ---- one field of a section
 
 -- the fields that are left have good tags
-pub record Left (s : List ℕ) (f : Field) (rest : List Field) : Type 0 where
+pub record StillLeft (s : List ℕ) (f : Field) (rest : List Field) : Type 0 where
   pub ended : Ended s
   pub walk : Walking s f rest
   pub tags : first badTag rest ≡ none
@@ -91,9 +91,9 @@ pub record Next (s : List ℕ) (f g : Field) (rest : List Field) : Type 0 where
   pub later : List Field
   pub is : rest ≡ f ∷ later
   pub good : badTag f ≡ false
-  pub left : Left s g later
+  pub left : StillLeft s g later
 
-module _ {s : List ℕ} {f : Field} {rest : List Field} (v : Left s f rest) where
+module _ {s : List ℕ} {f : Field} {rest : List Field} (v : StillLeft s f rest) where
   pub left-fits : f .at < length s → endOf f ≤ length s
   left-fits h = walk-fits (v .walk) (v .ended .ends) h
 
@@ -121,7 +121,7 @@ module _ {s : List ℕ} {f : Field} {rest : List Field} (v : Left s f rest) wher
 pub begins-first : {s : List ℕ} {f : Field} → Tagged s → f ≡ start s → Begins headTag s f
 begins-first {s} {f} v e =
     let w = walk-start e in
-    let l : Left s f (fields s) = record { ended = v .ended; walk = w; tags = v .tags } in
+    let l : StillLeft s f (fields s) = record { ended = v .ended; walk = w; tags = v .tags } in
     record {
       rest = fields s;
       ended = v .ended;
@@ -132,7 +132,7 @@ begins-first {s} {f} v e =
       starts = λ u h. refl;
     }
 
-left-of : {t : ℕ} {s : List ℕ} {f : Field} (b : Begins t s f) → Left s f (b .rest)
+left-of : {t : ℕ} {s : List ℕ} {f : Field} (b : Begins t s f) → StillLeft s f (b .rest)
 left-of b = record { ended = b .ended; walk = b .walk; tags = b .tags }
 
 begins-at : {t : ℕ} {s : List ℕ} {f : Field} → Begins t s f → startOf t s ≡ f .at
@@ -157,7 +157,7 @@ pub record Counting (t : ℕ) (s : List ℕ) (n : ℕ) (f : Field) : Type 0 wher
   pub rest : List Field
   pub count : n ≡ length offsets
   pub few : n ≤ f .at
-  pub left : Left s f rest
+  pub left : StillLeft s f rest
   pub low : f .at < length s → t ≤ f .tag
   pub all : offsetsOf t s ≡ offsets ++ map (λ (f : Field). f .at) (ofTag t rest)
   pub same : (u : ℕ) → t < u → ofTag u rest ≡ ofTag u (fields s)

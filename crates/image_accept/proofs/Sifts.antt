@@ -14,7 +14,7 @@ use mir.Syntax.{w64}
 use mir.Val.{ofZ, toZ}
 use borrow.Author.Tests.{leb-true, le-ltb, ne-eqb}
 use Rattle.base.proofs.Lists.{and-parts}
-use Rattle.numbers.specs.Bytes.{le64, signed64}
+use Rattle.numbers.specs.Bytes.{shortRange, le64, signed64}
 use Rattle.oce_model.specs.Format.{headTag, textTag, blockTag, connectorTag, connectionTag, externalInputTag, boundaryInputTag, boundaryOutputTag, highestTag, longestImage}
 use Rattle.oce_model.specs.Image.{fieldAt, fields, first, ofTag}
 use Rattle.oce_model.specs.Model.{modelOf}
@@ -82,7 +82,7 @@ unfolding start placed fieldAt
 start-prev s = refl
 
 module _ {t : ℕ} {s : List ℕ} {f : Field} (v : RisingTags t s f) where
-  pub rising-turn : {g : Field} → t ≤ highestTag → f .at < length s → f .tag ≡ t → endOf f ≤ length s → g ≡ after s f → g .len < 65536 → RisingTags t s g
+  pub rising-turn : {g : Field} → t ≤ highestTag → f .at < length s → f .tag ≡ t → endOf f ≤ length s → g ≡ after s f → g .len < shortRange → RisingTags t s g
   unfolding badTag
   rising-turn {g} top h tag fits e l =
       let k = walk-step (v .walk) h fits e in
@@ -144,7 +144,7 @@ pub sieving-start : {t n : ℕ} {s : List ℕ} {f : Field} → Entering t n s f 
 sieving-start b = record { rising = b .rising; few = omega arith; sieved = λ w. sieved-start (b .entered w) }
 
 module _ {t n : ℕ} {s : List ℕ} {count : ℕ} {f : Field} (v : Sieving t n s count f) where
-  pub sieving-turn : {b : Bool} {g : Field} → t ≤ highestTag → f .at < length s → f .tag ≡ t → endOf f ≤ length s → b ≡ atFault n s f → b ≡ false → g ≡ after s f → g .len < 65536
+  pub sieving-turn : {b : Bool} {g : Field} → t ≤ highestTag → f .at < length s → f .tag ≡ t → endOf f ≤ length s → b ≡ atFault n s f → b ≡ false → g ≡ after s f → g .len < shortRange
       → Sieving t n s (count + 1) g
   unfolding after placed fieldAt
   sieving-turn {g = g} top h tag fits a u e l =
@@ -178,7 +178,7 @@ pub listing-start : {t n : ℕ} {s table : List ℕ} {f : Field} → Entering t 
 listing-start b = record { sieves = sieving-start b; long = refl; tables = λ w. tabling-start (b .entered w .begins) }
 
 module _ {t n : ℕ} {s table₀ : List ℕ} {count : ℕ} {table : List ℕ} {f : Field} (v : Listing t n s table₀ count table f) where
-  pub listing-turn : {b : Bool} {g : Field} → t ≤ highestTag → f .at < length s → f .tag ≡ t → endOf f ≤ length s → count < length table → b ≡ atFault n s f → b ≡ false → g ≡ after s f → g .len < 65536
+  pub listing-turn : {b : Bool} {g : Field} → t ≤ highestTag → f .at < length s → f .tag ≡ t → endOf f ≤ length s → count < length table → b ≡ atFault n s f → b ≡ false → g ≡ after s f → g .len < shortRange
       → Listing t n s table₀ (count + 1) (set table count (f .at)) g
   listing-turn top h tag fits l a u e small = record {
     sieves = sieving-turn (v .sieves) top h tag fits a u e small;
@@ -200,12 +200,12 @@ listing-fault t s table = record { lists = λ h. absurd (false≢true h) }
 entered-first : {s : List ℕ} {f : Field} → Tagged s → f ≡ start s → Entered headTag 0 s f
 entered-first v e = record { begins = begins-first v e; quiet = quiets (seeking-start e); count = λ h. absurd (omega arith) }
 
-pub leading-first : {s : List ℕ} {f : Field} → f ≡ start s → f .len < 65536 → length s ≤ longestImage → AtStart s f
+pub leading-first : {s : List ℕ} {f : Field} → f ≡ start s → f .len < shortRange → length s ≤ longestImage → AtStart s f
 unfolding start placed fieldAt
 leading-first e l short = record { is = e; low = ap (λ (f : Field). f .at) e; few = walk-start e .few; small = l; short = short }
 
 module _ {s : List ℕ} {f : Field} (v : AtStart s f) (fits : endOf f ≤ length s) (tag : f .tag ≡ headTag) where
-  head-rising : {g : Field} → g ≡ after s f → g .len < 65536 → RisingTags textTag s g
+  head-rising : {g : Field} → g ≡ after s f → g .len < shortRange → RisingTags textTag s g
   unfolding badTag
   head-rising {g} a l =
       let k = walk-step (walk-start (v .is)) (omega arith) fits a in
@@ -233,7 +233,7 @@ module _ {s : List ℕ} {f : Field} (v : AtStart s f) (fits : endOf f ≤ length
       arm {g} b k prev (yes h) = counting-past (k .counts) (b .begins) h (one-head (g .tag) (g .prev) prev (left-next (k .counts .left) h refl .good))
       arm {g} b k prev (no h) = counting-end (k .counts) (b .begins) (omega arith)
 
-  pub head-sifts : {b : Bool} {g : Field} → b ≡ atFault 0 s f → b ≡ false → g ≡ after s f → g .len < 65536
+  pub head-sifts : {b : Bool} {g : Field} → b ≡ atFault 0 s f → b ≡ false → g ≡ after s f → g .len < shortRange
       → Sifts headTag s (record { fine = true; records = record { start = f .at; count = 1 }; next = g })
   head-sifts a u n l = record { rising = λ _. head-rising n l; clean = λ _ w. head-clean a u n w }
 

@@ -1,4 +1,4 @@
--- The layout of an accepted image, and what `accept` answers.
+-- The layout of an accepted image, and what `accept` answers: refusals 1 to 8. FORMAT 3 and 6.
 use Prim.Native.Nat.{ℕ}
 use mathlib.Core.Path.{_≡_}
 use mathlib.Core.List.{List, map}

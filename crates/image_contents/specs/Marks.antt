@@ -1,4 +1,4 @@
--- The parts of refusal 6's attribute rules and of refusal 8 that go by the byte of set bits, over the numbers that code reads.
+-- The parts of refusals 6 and 8 that go by the byte of set bits, over the numbers that code reads. FORMAT 4 and 6.
 use Prim.Native.Nat.{ℕ}
 use mathlib.Core.Bool.{Bool, cond, not, _&&_, _||_}
 use lib.Dec.{eqb, ltb, leb}

@@ -7,6 +7,7 @@ use mathlib.Core.List.{List, _∷_}
 use mathlib.Core.Option.{some}
 use lib.ListN.{length}
 use borrow.Author.Tests.{lt-ltb, le-ltb}
+use Rattle.numbers.specs.Bytes.{shortRange}
 use Rattle.oce_model.specs.Format.{longestImage}
 use Rattle.oce_model.specs.Image.{fields, first}
 use Rattle.oce_model.specs.Refusals.{badTag}
@@ -24,7 +25,7 @@ use Rattle.image_framing.proofs.Walks.{walk-cut, walk-end, walk-fits, w
 pub record Framing (s : List ℕ) (bad : Found) (f : Field) : Type 0 where
   pub rest : List Field
   pub walk : Walking s f rest
-  pub small : f .len < 65536
+  pub small : f .len < shortRange
   pub found : foundOf (first badTag (fields s)) ≡ orElse bad (foundOf (first badTag rest))
 
 one-more : (bad : Found) (f : Field) (l : List Field) → orElse bad (foundOf (first badTag (f ∷ l))) ≡ orElse (firstOf bad f) (foundOf (first badTag l))
@@ -41,11 +42,11 @@ none-more (At at) = refl
 none-more (Nothing) = refl
 
 module _ {s : List ℕ} {f : Field} where
-  pub framing-start : f ≡ start s → f .len < 65536 → Framing s Nothing f
+  pub framing-start : f ≡ start s → f .len < shortRange → Framing s Nothing f
   framing-start e l = record { rest = fields s; walk = walk-start e; small = l; found = refl }
 
   module _ {bad : Found} (v : Framing s bad f) where
-    pub framing-turn : {bad′ : Found} {g : Field} → f .at < length s → endOf f ≤ length s → bad′ ≡ firstOf bad f → g ≡ after s f → g .len < 65536 → Framing s bad′ g
+    pub framing-turn : {bad′ : Found} {g : Field} → f .at < length s → endOf f ≤ length s → bad′ ≡ firstOf bad f → g ≡ after s f → g .len < shortRange → Framing s bad′ g
     framing-turn h fits b e l =
         let k = walk-step (v .walk) h fits e in
         record { rest = k .later; walk = k .walk; small = l; found = v .found ∙ ap (λ r. orElse bad (foundOf (first badTag r))) (k .is) ∙ one-more bad f (k .later) ∙ rw b }

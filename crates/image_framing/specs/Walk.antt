@@ -1,4 +1,4 @@
--- The fields of an image, one after the other, as a loop goes through them.
+-- The fields of an image, one after the other, as a loop goes through them. FORMAT 2.
 use Prim.Native.Nat.{ℕ, zero, suc, _+_, _≤_}
 use mathlib.Core.Path.{_≡_}
 use mathlib.Core.Bool.{cond}

@@ -1,4 +1,4 @@
--- A field at fault under any of refusals 4 to 8.
+-- A field at fault under any of refusals 4 to 8. FORMAT 6.
 use Prim.Native.Nat.{ℕ}
 use mathlib.Core.Bool.{Bool, _||_}
 use mathlib.Core.List.{List}

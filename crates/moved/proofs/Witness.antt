@@ -5,14 +5,15 @@ use native.Mathlib.Decide.{decLt}
 use native.Mathlib.Omega.{arith}
 use mathlib.Core.Path.{_≡_, refl, sym}
 use mathlib.Core.Bool.{Bool, true, false}
-use mathlib.Core.List.{List, [], _∷_, map}
+use mathlib.Core.List.{List, [], _∷_, map, append-nil}
 use mathlib.Core.Option.{none}
-use lib.ListN.{length, take, List·getD-eq-default}
+use lib.ListN.{length, take, drop, List·getD-eq-default}
 use lib.Dec.{eqb, ltb}
 use lib.IntN.{pos}
 use lib.Ieee.{Float, ofBits, lt, le, fits}
 use borrow.Author.Tests.{eqb-true, ltb-true}
 use Rattle.base.specs.Lists.{all}
+use Rattle.base.specs.Buffers.{startsWith}
 use Rattle.numbers.specs.Bytes.{byte, byteRange, wordRange, longRange, real64}
 use Rattle.oce_model.specs.Format.{quantityBit, unitBit}
 use Rattle.oce_model.specs.Build.{_is_, realWith}
@@ -20,6 +21,7 @@ use Rattle.oce_model.specs.Examples.{kelvin, celsius, ten, twenty, zero+, aNaN,
 use Rattle.oce_model.specs.Attributes.{Attrs}
 use Rattle.oce_model.specs.Model.{Connector, Model, modelOf, noConnector, connector, connectorCount, isIn}
 use Rattle.oce_model.specs.Refusals.{refusal}
+use Rattle.oce_diag.specs.Encoding.{reportBytes}
 use Rattle.crossed_bounds.specs.Ranges.{rangeOf}
 use Rattle.crossed_bounds.specs.Values.{Datum, real, integer, boolean, string, enum, ofType, inside}
 use Rattle.crossed_bounds.specs.declared.Bounds.the-variants.{Integer}
@@ -50,15 +52,16 @@ of-types m h i l = eqb-true _ _ (all-getD (λ (c : Connector). eqb (c .attrs .ki
 
 -- ---- the model that meets the premises
 
--- by computation: the premises, and a call whose filled buffer held the image and whose report buffer is empty: its answer and both buffers after it; then which values
--- arrive, in turn at In 1, 2, 4, 6 and 7, and which are delivered to the boundary outputs
+-- by computation: the premises, the answer, the report and the filled image; then which values arrive, in turn at In 1, 2, 4, 6 and 7, and which are delivered to the
+-- boundary outputs
 pub record Computes : Type 0 where
   pub bytes : all (λ b. ltb b byteRange) witnessImage ≡ true
   pub kinds : all (λ (c : Connector). eqb (c .attrs .kind) (c .valueType)) (modelOf witnessImage .connectors) ≡ true
   pub answered : answer witnessImage (length witnessImage) 0 ≡ Checked 0 0
-  pub filled : filledAfter witnessImage witnessImage [] ≡ witnessFilled
-  pub report : reportAfter witnessImage witnessImage [] ≡ []
+  pub report : reportOf witnessImage ≡ []
+  pub filled : filledOf witnessImage ≡ witnessFilled
   pub front : take (length witnessImage) witnessFilled ≡ witnessFilled
+  pub behind : drop (length witnessFilled) witnessImage ≡ []
   pub arrive : (x : ℕ → Datum) → map (arrivals (modelOf witnessImage) x) (1 ∷ 2 ∷ 4 ∷ 6 ∷ 7 ∷ []) ≡ (x 0 ∷ []) ∷ (x 0 ∷ []) ∷ (x 3 ∷ []) ∷ (x 5 ∷ []) ∷ (x 7 ∷ []) ∷ []
   pub deliver : (x : ℕ → Datum) → map (delivered (modelOf witnessImage) x) (modelOf witnessImage .boundaryOutputs) ≡ (x 0 ∷ []) ∷ (x 3 ∷ []) ∷ []
 
@@ -68,18 +71,28 @@ witness-computes = record {
   bytes = refl;
   kinds = refl;
   answered = refl;
-  filled = refl;
   report = refl;
+  filled = refl;
   front = refl;
+  behind = refl;
   arrive = λ x. refl;
   deliver = λ x. refl;
 }
+
+-- a call whose filled buffer held the image and whose report buffer is empty
+pub witness-filled : filledAfter witnessImage witnessImage [] ≡ witnessFilled
+unfolding filledAfter startsWith
+witness-filled = let c = witness-computes in rw (c .answered, c .filled, c .behind) (append-nil witnessFilled)
+
+pub witness-report : reportAfter witnessImage witnessImage [] ≡ []
+unfolding reportAfter startsWith reportBytes
+witness-report = let c = witness-computes in rw (c .answered, c .report)
 
 -- so demand 3 speaks of it: of what the call leaves, and of the two models
 pub witness-left : Left witnessImage 0 0 witnessFilled []
 witness-left =
     let c = witness-computes in
-    moved witnessImage witnessImage [] (Checked 0 0) witnessFilled [] (all-bytes witnessImage (c .bytes)) (sym (c .answered)) (sym (c .filled)) (sym (c .report)) .left 0 0 refl
+    moved witnessImage witnessImage [] (Checked 0 0) witnessFilled [] (all-bytes witnessImage (c .bytes)) (sym (c .answered)) (sym witness-filled) (sym witness-report) .left 0 0 refl
 
 pub witness-wired : Wired (modelOf witnessImage) (modelOf witnessFilled)
 witness-wired = rw (witness-computes .front) at (witness-left .wired refl (of-types (modelOf witnessImage) (witness-computes .kinds)))

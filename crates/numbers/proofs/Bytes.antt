@@ -1,12 +1,12 @@
 -- Laws of numbers of w bytes, over the width.
 use Prim.Native.Nat.{ℕ, zero, suc, _+_, _*_, _/_, _%_, _≤_, _<_, _^_}
-use native.Mathlib.Nat.{zero-add, add-zero, suc-add, pow-succ', pow-zero, div-lt-iff-lt-mul, div-div-eq-div-mul, mod-add-div, mod-lt, div-one, mul-assoc, add-mul-div-left, add-mul-mod-self-left}
+use native.Mathlib.Nat.{zero-add, add-zero, suc-add, pow-succ', pow-zero, div-lt-iff-lt-mul, div-div-eq-div-mul, mod-add-div, div-one, mul-assoc, add-mul-div-left, add-mul-mod-self-left}
 use native.Mathlib.Numerals.{add-one}
 use native.Mathlib.Omega.{arith}
 use mathlib.Core.Path.{_≡_, refl, sym, ap, _∙_}
-use mathlib.Core.List.{List, [], _∷_, _++_, append-nil}
-use lib.ListN.{length, take, drop, List·getD-append, List·getD-eq-default}
-use lib.Seq.{getD-append-add, getD-take, getD-drop, drop-cons}
+use mathlib.Core.List.{List, [], _∷_, _++_}
+use lib.ListN.{length, take, drop, List·getD-eq-default}
+use lib.Seq.{getD-append-add, drop-cons}
 use Rattle.base.specs.Buffers.{patch}
 use Rattle.base.proofs.Buffers.{patch-patch}
 use Rattle.numbers.specs.Bytes.{byte, leAt, leBytes}

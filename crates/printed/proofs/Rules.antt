@@ -7,7 +7,7 @@ use mathlib.Core.List.{List, [], _∷_, List·Memᴰ·head, List·Memᴰ·tail}
 use mathlib.Core.Option.{none}
 use lib.ListN.{length, getD}
 use lib.Dec.{eqb, ltb}
-use Rattle.base.specs.Lists.{each, only, any, tab, tally}
+use Rattle.base.specs.Lists.{each, only, any, tally}
 use Rattle.base.proofs.Lists.{length-each, length-tab, tally-le}
 use Rattle.numbers.specs.Bytes.{wordRange, byte, byteRange}
 use Rattle.oce_model.specs.Format.{noText}

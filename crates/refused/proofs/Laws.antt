@@ -10,7 +10,7 @@ use lib.ListN.{length, length-append, length-replicate, replicate}
 use lib.Seq.{getD-append-add}
 use lib.Dec.{eqb, leb, ltb}
 use borrow.Author.Tests.{le-leb, lt-leb, lt-ltb, le-ltb, eq-eqb}
-use Rattle.numbers.specs.Bytes.{shortRange, byte, le, le16, leBytes}
+use Rattle.numbers.specs.Bytes.{shortRange, byte, leAt, le16, leBytes}
 use Rattle.numbers.proofs.Bytes.{le-append-right, le-bytes, leBytes-length}
 use Rattle.oce_model.specs.Format.{leadingBytes, fieldLengthAt, headTag, textTag, blockTag, connectorTag, connectionTag, externalInputTag, boundaryInputTag, boundaryOutputTag, highestTag, most, headLength, blockLength, connectorLength, connectionLength, externalInputLength, boundaryInputLength, boundaryOutputLength, fixedLength, shortestImage, longestImage, blockInputsAt, blockOutputsAt}
 use Rattle.oce_model.specs.Image.{fieldAt, fieldEnd, fields, fieldsFrom, first, ofTag, ordOf, stop, stopFrom}
@@ -142,7 +142,7 @@ module _ {t len : ℕ} {r : List ℕ} (is : IsField t len r) where
 -- ---- a head, and one more of them than there may be
 
 head-is : IsField headTag headLength headField
-unfolding headField headFieldOf field leBytes le
+unfolding headField headFieldOf field leBytes leAt
 head-is = record { tag = λ rest. refl; size = λ rest. refl; long = refl }
 
 module _ {t len : ℕ} {r : List ℕ} (is : IsField t len r) (good : (pre rest : List ℕ) (prev o : ℕ) → badLength (pre ++ (r ++ rest)) (row t len (length pre) prev o) ≡ false)
@@ -226,7 +226,7 @@ zeros-is t len h = record { tag = λ rest. refl; size = size; long = rw (length-
 -- a block's port counts are among the zeros
 block-good : (pre rest : List ℕ) (prev o : ℕ)
     → badLength (pre ++ (zeros blockTag blockLength ++ rest)) (row blockTag blockLength (length pre) prev o) ≡ false
-unfolding badLength badBlockLength le field leBytes
+unfolding badLength badBlockLength leAt field leBytes
 block-good pre rest prev o = rw (le-append-right 2 pre (zeros blockTag blockLength ++ rest) blockInputsAt, le-append-right 2 pre (zeros blockTag blockLength ++ rest) blockOutputsAt) ports
   where
     ports : badLength (zeros blockTag blockLength ++ rest) (row blockTag blockLength 0 prev o) ≡ false

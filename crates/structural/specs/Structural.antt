@@ -12,12 +12,16 @@ use Rattle.oce_diag.specs.declared.Subject.the-variants.{Nothing, Text}
 use Rattle.oce_diag.specs.declared.DiagCode.the-variants.{MalformedDocument, DirectionMismatch, SingleAssignment, TypeMismatch}
 use Rattle.structural.specs.Degrees.{degree, external}
 
+-- a number is out of range: it is no connector's. FORMAT 3
+abbrev pub outOfRange : Model → ℕ → Bool
+outOfRange m i = not (isConnector m i)
+
 -- ---- Rule 1, ids, `check_arena_ids`. FORMAT 9
 
 -- 1.2 and 1.3, `check_block_port_ids`: the connector of a port is out of range; the place is the port's index
 unfoldable pub portFaults : Model → Block → ℕ → List ℕ → List Diagnostic
 portFaults m b detail ports =
-    each (length ports) (λ p. only (not (isConnector m (getD ports p 0))) (error MalformedDocument 1 detail (blockSubjectOf b) p))
+    each (length ports) (λ p. only (outOfRange m (getD ports p 0)) (error MalformedDocument 1 detail (blockSubjectOf b) p))
 
 -- block i: 1.1 its id isn't its number; 1.2 its input ports; 1.3 its output ports
 unfoldable pub blockFaults : Model → ℕ → Block → List Diagnostic
@@ -47,7 +51,7 @@ matches o c = eqb (o .attrs .kind) (c .valueType)
 unfoldable pub outputFaults : Model → ℕ → BoundaryOutput → List Diagnostic
 outputFaults m i o =
     let c = connector m (o .source) in
-    cond (not (isConnector m (o .source)))
+    cond (outOfRange m (o .source))
     (error MalformedDocument 2 1 (Text (o .iri)) i ∷ [])
     (only (isIn c) (error DirectionMismatch 2 2 (Text (o .iri)) i)
     ++ only (not (matches o c)) (error MalformedDocument 2 3 (Text (o .iri)) i))
@@ -73,7 +77,7 @@ rule3 m = each (connectorCount m) (λ i. assignmentFaults m i (connector m i))
 
 -- ---- Rule 4, connections, `check_connections` (Standard 231, §9.1.6; §7.10 forbids implicit coercion). FORMAT 12
 
--- both ends of a connection are connectors
+-- neither end of a connection is out of range
 unfoldable pub inRange : Model → Connection → Bool
 inRange m k = isConnector m (k .from) && isConnector m (k .to)
 

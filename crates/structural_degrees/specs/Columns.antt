@@ -1,4 +1,4 @@
--- In-degrees of all connectors, in a column.
+-- In-degrees of all connectors, in a column. FORMAT 11.
 use Prim.Native.Nat.{ℕ, _+_, _<_, _≤_}
 use mathlib.Core.Path.{_≡_}
 use mathlib.Core.List.{List}

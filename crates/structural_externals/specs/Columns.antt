@@ -1,4 +1,4 @@
--- The external inputs in a column: an entry for each small id, and the other ids sorted behind these.
+-- The external inputs (FORMAT 3) in a column: an entry for each small id, and the other ids sorted behind these.
 use Prim.Native.Nat.{ℕ, _+_, _/_, _<_, _≤_}
 use mathlib.Core.Path.{_≡_}
 use mathlib.Core.Bool.{cond}

@@ -8,12 +8,12 @@ use lib.ListN.{length}
 use Rattle.oce_model.specs.Model.{modelOf}
 use Rattle.crossed_members.specs.Members.{memberCount}
 use Rattle.crossed_domains.proofs.Laws.{first-member, member-at}
-use Rattle.crossed_domains.proofs.Reporting.{Passed, no-runs, passed-start, passed-turn, passed-end, passed-few, passed-small, passed-length}
+use Rattle.crossed_domains.proofs.Reporting.{MembersPassed, no-runs, passed-start, passed-turn, passed-end, passed-few, passed-small, passed-length}
 use Rattle.crossed_domains.proofs.report_groups.Statement.{statement}
 use Rattle.crossed_domains.proofs.report_groups.Tie as tie
 
 abbrev Inv-loop : tie.InvT-loop
-Inv-loop image layout texts externals records report₀ x external p₀ i₀ report p i = Passed (modelOf image) (memberCount layout) records report₀ (p₀ .counted) report p i
+Inv-loop image layout texts externals records report₀ x external p₀ i₀ report p i = MembersPassed (modelOf image) (memberCount layout) records report₀ (p₀ .counted) report p i
 
 abbrev μ-loop : tie.MeasureT-loop
 μ-loop image layout texts externals records report₀ x external p₀ i₀ report p i = length records - i
