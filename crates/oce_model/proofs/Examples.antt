@@ -4,6 +4,7 @@ use mathlib.Core.Path.{_≡_, refl}
 use mathlib.Core.Bool.{Bool, true, false}
 use mathlib.Core.List.{List, [], _∷_, map}
 use mathlib.Core.Option.{Option, none, some}
+use lib.IntN.{pos, negsuc}
 use lib.ListN.{replicate, length, drop}
 use Rattle.numbers.specs.Bytes.{bit}
 use Rattle.oce_model.specs.Format.{dirIn, dirOut, realKind, integerKind, noText, quantityBit, unitBit, displayUnitBit, minBit, maxBit, nominalBit, unboundedBit, unboundedValueBit}
@@ -114,6 +115,8 @@ besides c = c .id ∷ c .block ∷ c .dir ∷ c .valueType ∷ c .enumClass ∷ 
 
 pub record RawRead : Type 0 where
   pub accepted : refusal rawImage ≡ none
+  -- -2,147,483,648 and 2,147,483,647
+  pub defaults : modelOf rawImage .defaults ≡ record { min = negsuc 0x7FFFFFFF; max = pos 0x7FFFFFFF }
   pub texts : modelOf rawImage .texts ≡ (0x4B ∷ []) ∷ (0x54 ∷ []) ∷ (0x43 ∷ []) ∷ (0x75 ∷ []) ∷ []
   pub blocks : modelOf rawImage .blocks ≡ record { id = 0; instanceIri = 3; inputs = 1 ∷ 3 ∷ []; outputs = 0 ∷ 2 ∷ [] } ∷ []
   pub connectors : map besides (modelOf rawImage .connectors)
@@ -134,6 +137,7 @@ pub raw-read : RawRead
 unfolding computed computedRaw
 raw-read = record {
   accepted = refl;
+  defaults = refl;
   texts = refl;
   blocks = refl;
   connectors = refl;
