@@ -10,6 +10,10 @@ ghost use Rattle.numbers.specs.Bytes.{byteRange, shortRange, wordRange, 
 // How many numbers a byte, two bytes and four can hold, each in the type that it is used in.
 const BYTE_RANGE: usize = 256;
 
+const BYTE_RANGE_U16: u16 = BYTE_RANGE as u16;
+
+pub const BYTE_RANGE_U32: u32 = BYTE_RANGE as u32;
+
 const SHORT_RANGE: usize = 65536;
 
 const SHORT_RANGE_U32: u32 = SHORT_RANGE as u32;
@@ -132,7 +136,10 @@ pub fn write16(s: &mut [u8], at: usize, v: u16)
     requires { ⌜ at + 2 ≤ length (now s) ⌝ }
     ensures { λ _. ⌜ now (s .exit) ≡ patch (now (s .entry)) at (leBytes 2 v) ⌝ }
 {
-    let bytes: [u8; 2] = [(v % 256) as u8, (v / 256 % 256) as u8];
+    let bytes: [u8; 2] = [
+        (v % BYTE_RANGE_U16) as u8,
+        (v / BYTE_RANGE_U16 % BYTE_RANGE_U16) as u8,
+    ];
     copy_at(s, at, &bytes);
 }
 

@@ -1,5 +1,6 @@
 // Diagnostics, as oce-diag has them, and how they are put into a report.
 use base::copy_at;
+use numbers::BYTE_RANGE_U32;
 use numbers::at32;
 use numbers::byte_at;
 use oce_model::BlockId;
@@ -214,14 +215,14 @@ fn encode(d: Diagnostic) -> [u8; DIAGNOSTIC_SIZE]
         0,
         0,
         0,
-        (number % 256) as u8,
-        (number / 256 % 256) as u8,
-        (number / 256 / 256 % 256) as u8,
-        (number / 256 / 256 / 256 % 256) as u8,
-        (place % 256) as u8,
-        (place / 256 % 256) as u8,
-        (place / 256 / 256 % 256) as u8,
-        (place / 256 / 256 / 256 % 256) as u8,
+        (number % BYTE_RANGE_U32) as u8,
+        (number / BYTE_RANGE_U32 % BYTE_RANGE_U32) as u8,
+        (number / BYTE_RANGE_U32 / BYTE_RANGE_U32 % BYTE_RANGE_U32) as u8,
+        (number / BYTE_RANGE_U32 / BYTE_RANGE_U32 / BYTE_RANGE_U32 % BYTE_RANGE_U32) as u8,
+        (place % BYTE_RANGE_U32) as u8,
+        (place / BYTE_RANGE_U32 % BYTE_RANGE_U32) as u8,
+        (place / BYTE_RANGE_U32 / BYTE_RANGE_U32 % BYTE_RANGE_U32) as u8,
+        (place / BYTE_RANGE_U32 / BYTE_RANGE_U32 / BYTE_RANGE_U32 % BYTE_RANGE_U32) as u8,
     ]
 }
 
