@@ -34,12 +34,12 @@ const MOST_SLOTS: usize = MOST_CONNECTORS + MOST_BOUNDARY_OUTPUTS;
 // Room for diagnostics that are written before it is known whether the report has room for them.
 const EARLY: usize = DIAGNOSTIC_SIZE * 64;
 
-const MOST_PLACES: usize = WIDTH * MOST_SLOTS;
+pub const MOST_PLACES: usize = WIDTH * MOST_SLOTS;
 
 // So many slots have a shorter table, which is sooner cleared.
-const FEW_SLOTS: usize = 192;
+pub const FEW_SLOTS: usize = 192;
 
-const FEW_PLACES: usize = WIDTH * FEW_SLOTS;
+pub const FEW_PLACES: usize = WIDTH * FEW_SLOTS;
 
 // Counts the diagnostics of an image; the table then holds its slots, filled.
 fn tally<'a>(

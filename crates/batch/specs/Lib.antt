@@ -1,0 +1,6 @@
+-- A batch of images: its fields, what its output holds, the answer and the output buffer after the call; batches and what each gives.
+pub mod Fields
+pub mod Output
+pub mod Answer
+pub mod Examples
+pub mod Computed

@@ -1,0 +1,2 @@
+-- A batch that isn't refused 11.
+pub mod Clean
