@@ -4,7 +4,8 @@ use mathlib.Core.Bool.{Bool, cond, not, _||_}
 use mathlib.Core.List.{List, map}
 use mathlib.Core.Option.{Option, none, some}
 use lib.Dec.{eqb, leb}
-use Rattle.oce_model.specs.Image.{Field, fields, stop, first}
+use Rattle.oce_model.specs.Image.{fields, stop, first}
+use Rattle.oce_model.specs.declared.Field.{Field}
 use Rattle.oce_model.specs.Refusals.{runsPast}
 use Rattle.oce_model.specs.Texts.{textOf}
 

@@ -4,7 +4,8 @@ use mathlib.Core.Path.{_≡_}
 use mathlib.Core.List.{List}
 use mathlib.Core.Option.{none}
 use lib.ListN.{length, drop}
-use Rattle.oce_model.specs.Image.{Field, fields, stop, first}
+use Rattle.oce_model.specs.Image.{fields, stop, first}
+use Rattle.oce_model.specs.declared.Field.{Field}
 use Rattle.image_framing.specs.Walk.{Walking}
 use Rattle.batch.specs.Fields.{mostImages, badField}
 
