@@ -2,5 +2,6 @@
 pub mod Fields
 pub mod Output
 pub mod Answer
+pub mod Single
 pub mod Examples
 pub mod Computed
