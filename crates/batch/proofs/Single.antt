@@ -30,9 +30,9 @@ as-single s f r room = arm (refusal s) refl
     arm (some x) e = record { numbers = rw e; bytes = rw e; after = rw e }
     arm none e =
         let h : answer s (length f) (length r) ≡ Checked (errors (reportOf s)) (warnings (reportOf s)) =
-            rw (e, le-ltb (length f) (length s) (room .filled), le-ltb (length r) (reportSize (reportOf s)) (room .report)) in
+        rw (e, le-ltb (length f) (length s) (room .filled), le-ltb (length r) (reportSize (reportOf s)) (room .report)) in
         let n : diagnosticSize * (errors (reportOf s) + warnings (reportOf s)) ≡ length (reportBytes (reportOf s)) =
-            ap (λ k. diagnosticSize * k) (errors-warnings (reportOf s)) ∙ sym (reportBytes-length (reportOf s)) in
+        ap (λ k. diagnosticSize * k) (errors-warnings (reportOf s)) ∙ sym (reportBytes-length (reportOf s)) in
         record {
           numbers = rw (h, e);
           bytes = rw (h, e, n) (sym (take-append-seam (reportBytes (reportOf s)) _));

@@ -22,7 +22,6 @@ pub record Counting (s b b′ : List ℕ) (c : Counted) : Type 0 where
   pub warnings : c .warnings ≡ warnings (reportOf s)
   pub few : total c ≤ mostDiagnostics
   pub bytes : reportSize (reportOf s) ≤ length b → b′ ≡ startsWith (reportBytes (reportOf s)) b
-  pub long : length b′ ≡ length b
 
 -- the bytes of an image's field and report
 abbrev pub sizeOf : Summary → ℕ
@@ -41,4 +40,3 @@ pub record Summarized (s : List ℕ) (r : Summary) : Type 0 where
 pub record Summed (s b b′ : List ℕ) (r : Summary) : Type 0 where
   pub summarized : Summarized s r
   pub bytes : length (imageReport s) ≤ length b → b′ ≡ startsWith (imageReport s) b
-  pub long : length b′ ≡ length b
