@@ -1,8 +1,8 @@
 -- A batch's output is what single calls give, image by image.
-use Prim.Native.Nat.{ℕ, _+_, _*_, _≤_}
+use Prim.Native.Nat.{ℕ, _+_, _*_}
 use native.Mathlib.Omega.{arith}
 use mathlib.Core.Path.{_≡_, refl, sym, ap, _∙_}
-use mathlib.Core.List.{List, [], _∷_, _++_}
+use mathlib.Core.List.{List, [], _∷_}
 use mathlib.Core.Option.{Option, none, some}
 use lib.ListN.{length, length-replicate}
 use lib.Seq.{take-append-seam}
@@ -16,10 +16,10 @@ use Rattle.oce_diag.proofs.Encoding.{reportBytes-length}
 use Rattle.outcome.specs.Answer.{reportOf, reportSize, answer, reportAfter}
 use Rattle.outcome.specs.declared.Answer.the-variants.{Checked}
 use Rattle.batch.specs.Fields.{images}
-use Rattle.batch.specs.Output.{summaryOf, summaryBytes, imageReport, imageOutput, outputOf, batchOutput}
+use Rattle.batch.specs.Output.{summaryOf, imageReport, imageOutput, outputOf, batchOutput}
 use Rattle.batch.specs.Answer.{batchAnswer, outputAfter}
 use Rattle.batch.specs.declared.BatchAnswer.the-variants.{Written}
-use Rattle.batch.specs.Single.{summarized, Roomy, leftOf, AsSingle, Lent, justRoom, singly}
+use Rattle.batch.specs.Single.{Roomy, leftOf, AsSingle, Lent, justRoom, singly}
 
 -- of one image, in all buffers that have room: where it is turned away they need none
 pub as-single : (s f r : List ℕ) → Roomy s f r → AsSingle s f r

@@ -4,7 +4,8 @@ use Rattle.outcome.specs.Computed.{computed as computedBelow}
 use Rattle.batch.specs.Fields.{badField, firstFault, images}
 use Rattle.batch.specs.Output.{summaryOf, summaryBytes, imageReport, imageOutput, outputOf, batchOutput}
 use Rattle.batch.specs.Answer.{answerWith, batchAnswer, outputAfter}
+use Rattle.batch.specs.Packed.{pack}
 
 unfoldable pub computed : ℕ
-unfolding computedBelow badField firstFault images summaryOf summaryBytes imageReport imageOutput outputOf batchOutput answerWith batchAnswer outputAfter
+unfolding computedBelow badField firstFault images summaryOf summaryBytes imageReport imageOutput outputOf batchOutput answerWith batchAnswer outputAfter pack
 computed = 0

@@ -6,10 +6,7 @@ use Rattle.oce_model.specs.Build.{field}
 use Rattle.oce_model.specs.Examples.{modelA, modelC, modelM, image78}
 use Rattle.batch.specs.Fields.{imageTag}
 use Rattle.batch.specs.Answer.{batchAnswer, batchNumbers, outputAfter}
-
--- an image in its field
-abbrev pub imageField : List ℕ → List ℕ
-imageField s = field imageTag s
+use Rattle.batch.specs.Packed.{imageField, pack}
 
 -- model a without its last two bytes, and model a with a field of tag 9 behind it
 abbrev pub shortA : List ℕ
@@ -20,7 +17,7 @@ strangeA = modelA ++ 9 ∷ 0 ∷ 0 ∷ []
 
 -- the 78 bytes, model c, two images that are turned away, an image of 0 bytes, model m, model a
 unfoldable pub mixed : List ℕ
-mixed = imageField image78 ++ imageField modelC ++ imageField shortA ++ imageField strangeA ++ imageField [] ++ imageField modelM ++ imageField modelA
+mixed = pack (image78 ∷ modelC ∷ shortA ∷ strangeA ∷ [] ∷ modelM ∷ modelA ∷ [])
 
 -- its output: a field of 16 bytes for each image, a row for each diagnostic
 unfoldable pub mixedOutput : List ℕ

@@ -3,5 +3,6 @@ pub mod Fields
 pub mod Output
 pub mod Answer
 pub mod Single
+pub mod Packed
 pub mod Examples
 pub mod Computed

@@ -9,7 +9,7 @@ use Rattle.oce_diag.specs.Encoding.{diagnosticSize}
 use Rattle.outcome.specs.Answer.{reportOf, reportSize, answer, reportAfter}
 use Rattle.outcome.specs.declared.Answer.{Answer}
 use Rattle.outcome.specs.declared.Answer.the-variants.{Refused, Checked}
-use Rattle.batch.specs.Output.{summaryOf, summaryBytes, imageReport, imageOutput}
+use Rattle.batch.specs.Output.{summaryOf, summaryBytes, imageReport}
 use Rattle.batch.specs.declared.Summary.{Summary}
 
 -- the numbers of a single call's answer, 0 where there is none

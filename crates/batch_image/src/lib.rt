@@ -23,7 +23,7 @@ ghost use Rattle.base.specs.Buffers.{startsWith};
 ghost use Rattle.oce_model.specs.Format.{textTag, blockTag};
 ghost use Rattle.image_accept.specs.Layout.{Laid, Tabled};
 ghost use Rattle.oce_validate.specs.Answered.{fewSlots};
-ghost use Rattle.batch.specs.Output.{summaryOf, summaryBytes, imageOutput};
+ghost use Rattle.batch.specs.Output.{summaryBytes, imageOutput};
 ghost use Rattle.batch_image.specs.Summarized.{Counting, Summed, Summarized, sizeOf, mostBytes};
 
 // ---- the check

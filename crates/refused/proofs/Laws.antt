@@ -1,23 +1,23 @@
 -- Refusal 1 for every image that is too long, and refusal 5 for each tag from 2 to 8: images that are too long to compute with. FORMAT 6.
-use Prim.Native.Nat.{ℕ, zero, suc, _+_, _*_, _^_, _≤_, _<_}
+use Prim.Native.Nat.{ℕ, zero, suc, _+_, _*_, _≤_, _<_}
 use native.Mathlib.Nat.{add-zero, zero-add, mul-zero, mul-suc}
 use native.Mathlib.Omega.{arith}
 use mathlib.Core.Path.{_≡_, refl, sym, ap, _∙_}
-use mathlib.Core.Bool.{true, false}
-use mathlib.Core.List.{List, [], _∷_, _++_, append-assoc, append-nil}
+use mathlib.Core.Bool.{false}
+use mathlib.Core.List.{List, [], _∷_, _++_, append-assoc}
 use mathlib.Core.Option.{none, some}
 use lib.ListN.{length, length-append, length-replicate, replicate}
-use lib.Seq.{getD-append-add}
-use lib.Dec.{eqb, leb, ltb}
+use lib.Dec.{eqb, ltb}
 use borrow.Author.Tests.{le-leb, lt-leb, lt-ltb, le-ltb, eq-eqb}
-use Rattle.numbers.specs.Bytes.{shortRange, byte, leAt, le16, leBytes}
-use Rattle.numbers.proofs.Bytes.{le-append-right, le-bytes, leBytes-length}
-use Rattle.oce_model.specs.Format.{leadingBytes, fieldLengthAt, headTag, textTag, blockTag, connectorTag, connectionTag, externalInputTag, boundaryInputTag, boundaryOutputTag, highestTag, most, headLength, blockLength, connectorLength, connectionLength, externalInputLength, boundaryInputLength, boundaryOutputLength, fixedLength, shortestImage, longestImage, blockInputsAt, blockOutputsAt}
-use Rattle.oce_model.specs.Image.{fieldAt, fieldEnd, fields, fieldsFrom, first, ofTag, ordOf, stop, stopFrom}
+use Rattle.numbers.specs.Bytes.{shortRange, leAt, leBytes}
+use Rattle.numbers.proofs.Bytes.{le-append-right}
+use Rattle.oce_model.specs.Format.{leadingBytes, headTag, textTag, blockTag, connectorTag, connectionTag, externalInputTag, boundaryInputTag, boundaryOutputTag, highestTag, most, headLength, blockLength, connectorLength, connectionLength, externalInputLength, boundaryInputLength, boundaryOutputLength, fixedLength, shortestImage, longestImage, blockInputsAt, blockOutputsAt}
+use Rattle.oce_model.specs.Image.{fields, fieldsFrom, first, ofTag, ordOf, stop, stopFrom}
 use Rattle.oce_model.specs.declared.Field.{Field}
 use Rattle.oce_model.specs.Refusals.{badBlockLength, badLength, badTag, fault, refusal, refusalsFrom, tagIsBad, tooMany}
 use Rattle.oce_model.specs.Build.{field, headField, headFieldOf}
-use Rattle.oce_model.proofs.Fields.{fieldEnd-past, first-here, first-later}
+use Rattle.oce_model.proofs.Fields.{first-here, first-later}
+use Rattle.oce_model.proofs.Behind.{IsField, row, long-at, fields-step, stop-step, fields-end, stop-end, built-is}
 use Rattle.refused.specs.Refused.{repeated, fewest, crowded, beyond}
 
 -- ---- refusal 1
@@ -27,62 +27,6 @@ unfolding refusal
 too-long s h =
     let short : ltb (length s) shortestImage ≡ false = le-ltb (length s) shortestImage (omega arith) in
     rw (short, lt-ltb longestImage (length s) h)
-
--- ---- one field behind others
-
--- the bytes r are a field with a tag and a length, whatever stands behind
-pub record IsField (t len : ℕ) (r : List ℕ) : Type 0 where
-  pub tag : (rest : List ℕ) → byte (r ++ rest) 0 ≡ t
-  pub size : (rest : List ℕ) → le16 (r ++ rest) fieldLengthAt ≡ len
-  pub long : length r ≡ leadingBytes + len
-
--- the field with a tag and a length at an offset
-abbrev row : ℕ → ℕ → ℕ → ℕ → ℕ → Field
-row t len at prev o = record { at = at; tag = t; len = len; prev = prev; ord = o }
-
-module _ {t len : ℕ} {r : List ℕ} (is : IsField t len r) where
-  module _ (pre rest : List ℕ) where
-    tag-at : byte (pre ++ (r ++ rest)) (length pre) ≡ t
-    tag-at = rw (add-zero (length pre)) at (getD-append-add pre (r ++ rest) 0 0) ∙ is .tag rest
-
-    size-at : le16 (pre ++ (r ++ rest)) (length pre + fieldLengthAt) ≡ len
-    size-at = le-append-right 2 pre (r ++ rest) 1 ∙ is .size rest
-
-    long-at : length (pre ++ r) ≡ length pre + leadingBytes + len
-    long-at = length-append pre r ∙ (let e = is .long in omega arith)
-
-    fits : leb (length pre + leadingBytes + len) (length (pre ++ (r ++ rest))) ≡ true
-    fits =
-        let e = is .long in
-        let l : length pre + leadingBytes + len ≤ length (pre ++ (r ++ rest)) = rw (length-append pre (r ++ rest), length-append r rest) (omega arith) in
-        le-leb _ _ l
-
-    fields-step : (k prev o : ℕ)
-        → fieldsFrom (suc k) (pre ++ (r ++ rest)) (length pre) prev o
-        ≡ row t len (length pre) prev (ordOf prev o t) ∷ fieldsFrom k ((pre ++ r) ++ rest) (length (pre ++ r)) t (suc (ordOf prev o t))
-    unfolding fieldsFrom fieldEnd fieldAt
-    fields-step k prev o = rw (append-assoc pre r rest, long-at, tag-at, size-at, fits)
-
-    stop-step : (k : ℕ) → stopFrom (suc k) (pre ++ (r ++ rest)) (length pre) ≡ stopFrom k ((pre ++ r) ++ rest) (length (pre ++ r))
-    unfolding stopFrom fieldEnd
-    stop-step k = rw (append-assoc pre r rest, long-at, size-at, fits)
-
--- behind the last field nothing is left
-module _ (pre : List ℕ) where
-  over : leb (fieldEnd (pre ++ []) (length pre)) (length (pre ++ [])) ≡ false
-  over =
-      let l : length (pre ++ []) < fieldEnd (pre ++ []) (length pre) = rw (length-append pre []) (omega (arith, fieldEnd-past (pre ++ []) (length pre))) in
-      lt-leb _ _ l
-
-  fields-end : (k prev o : ℕ) → fieldsFrom k (pre ++ []) (length pre) prev o ≡ []
-  unfolding fieldsFrom
-  fields-end zero prev o = refl
-  fields-end (suc k) prev o = rw over
-
-  stop-end : (k : ℕ) → stopFrom k (pre ++ []) (length pre) ≡ length (pre ++ [])
-  unfolding stopFrom
-  stop-end zero = rw (append-nil pre)
-  stop-end (suc k) = rw (over, append-nil pre)
 
 -- ---- n fields alike behind others
 
@@ -209,19 +153,7 @@ abbrev zeros : ℕ → ℕ → List ℕ
 zeros t len = field t (replicate len 0)
 
 zeros-is : (t len : ℕ) → len < shortRange → IsField t len (zeros t len)
-unfolding field
-zeros-is t len h = record { tag = λ rest. refl; size = size; long = rw (length-append (leBytes 2 (length c)) c, leBytes-length 2 (length c), n) (omega arith) }
-  where
-    c : List ℕ
-    c = replicate len 0
-
-    n : length c ≡ len
-    n = length-replicate len 0
-
-    size : (rest : List ℕ) → le16 (zeros t len ++ rest) 1 ≡ len
-    size rest =
-        let l : length c < 256 ^ 2 = rw n (omega arith) in
-        le-append-right 2 (t ∷ []) ((leBytes 2 (length c) ++ c) ++ rest) 0 ∙ rw (append-assoc (leBytes 2 (length c)) c rest) (le-bytes 2 (length c) (c ++ rest) l) ∙ n
+zeros-is t len h = let n : length {A = ℕ} (replicate len 0) ≡ len = length-replicate len 0 in rw n at (built-is t (replicate len 0) (rw n h))
 
 -- a block's port counts are among the zeros
 block-good : (pre rest : List ℕ) (prev o : ℕ)
