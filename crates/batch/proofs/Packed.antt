@@ -5,7 +5,7 @@ use native.Mathlib.Omega.{arith}
 use mathlib.Core.Path.{_≡_, refl, sym, ap, _∙_}
 use mathlib.Core.Bool.{Bool, true, false, cond, _&&_}
 use mathlib.Core.List.{List, [], _∷_, _++_, map, append-assoc, append-nil}
-use mathlib.Core.Option.{Option, none, some}
+use mathlib.Core.Option.{none, some, Option·some-ne-none}
 use lib.Dec.{leb, ltb, eqb}
 use lib.ListN.{length, drop, length-append}
 use lib.Seq.{take-append-seam, drop-append-add}
@@ -115,11 +115,7 @@ first-behind p [] gs h = refl
 first-behind p (f ∷ fs) gs h = arm (p f) h (first-behind p fs gs)
   where
     arm : (b : Bool) → cond b (some (f .at)) (first p fs) ≡ none → (first p fs ≡ none → first p (fs ++ gs) ≡ first p gs) → cond b (some (f .at)) (first p (fs ++ gs)) ≡ first p gs
-    arm true e ih = let z : _≡_ {A = ℕ} 0 1 = ap (λ (o : Option ℕ). cond {A = ℕ} (isSome o) 1 0) (sym e) in absurd (omega arith)
-      where
-        isSome : Option ℕ → Bool
-        isSome none = false
-        isSome (some x) = true
+    arm true e ih = absurd (Option·some-ne-none (f .at) e)
     arm false e ih = ih e
 
 -- their contents are the images
