@@ -1,5 +1,5 @@
 -- A batch in which no field is at fault, and a pass over its images.
-use Prim.Native.Nat.{ℕ, _<_, _≤_}
+use Prim.Native.Nat.{ℕ, _+_, _<_, _≤_}
 use mathlib.Core.Path.{_≡_}
 use mathlib.Core.List.{List}
 use mathlib.Core.Option.{none}
@@ -20,5 +20,6 @@ pub record Passing (s : List ℕ) (f : Field) (i : ℕ) (rest : List Field) : Ty
   pub ends : stop s ≡ length s
   pub good : first badField rest ≡ none
   pub here : rest ≡ drop i (fields s)
+  pub all : i + length rest ≡ length (fields s)
   pub ord : f .at < length s → f .ord ≡ i
   pub few : i ≤ mostImages

@@ -15,7 +15,7 @@ use Rattle.base.specs.Buffers.{startsWith}
 use Rattle.base.specs.Lists.{keep}
 use Rattle.base.proofs.Buffers.{startsWith-none}
 use Rattle.base.proofs.Lists.{or-parts}
-use Rattle.oce_model.specs.Format.{headTag, highestTag, longestImage}
+use Rattle.oce_model.specs.Format.{headTag, highestTag}
 use Rattle.oce_model.specs.Image.{fieldAt, fields, first, ofTag, orEnd, startOf}
 use Rattle.oce_model.specs.Refusals.{badTag, tagIsBad}
 use Rattle.oce_model.specs.declared.Field.{Field}
@@ -201,8 +201,8 @@ module _ {t : ℕ} {s : List ℕ} {n : ℕ} {f : Field} (v : Counting t s n f) w
         starts = λ u h. sym (first-later (reaches u) f (k .later) (lt-leb u (f .tag) (omega arith))) ∙ sym (ap (first (reaches u)) (k .is)) ∙ v .starts u h;
       }
 
-  pub counting-room : f .at < length s → endOf f ≤ longestImage
-  counting-room h = let l = left-fits (v .left) h in omega (arith, v .left .ended .short)
+  pub counting-room : f .at < length s → endOf f ≤ length s
+  counting-room h = left-fits (v .left) h
 
   -- one more than those passed
   counting-more : f .at < length s → f .tag ≡ t → n < length (offsetsOf t s)

@@ -8,7 +8,6 @@ use mathlib.Core.Option.{some}
 use lib.ListN.{length}
 use borrow.Author.Tests.{lt-ltb, le-ltb}
 use Rattle.numbers.specs.Bytes.{shortRange}
-use Rattle.oce_model.specs.Format.{longestImage}
 use Rattle.oce_model.specs.Image.{fields, first}
 use Rattle.oce_model.specs.Refusals.{badTag}
 use Rattle.oce_model.specs.declared.Field.{Field}
@@ -75,11 +74,8 @@ module _ {p : Field → Bool} {s : List ℕ} {f : Field} where
   seeking-start e = record { rest = fields s; walk = walk-start e; same = refl }
 
   module _ (v : Seeking p s f) where
-    seeking-fits : Ended s → f .at < length s → endOf f ≤ length s
+    pub seeking-fits : Ended s → f .at < length s → endOf f ≤ length s
     seeking-fits w h = walk-fits (v .walk) (w .ends) h
-
-    pub seeking-room : Ended s → f .at < length s → endOf f ≤ longestImage
-    seeking-room w h = let l = seeking-fits w h in omega (arith, w .short)
 
     pub seeking-turn : {b : Bool} {g : Field} → Ended s → f .at < length s → b ≡ p f → b ≡ false → g ≡ after s f → Seeking p s g
     seeking-turn w h t u e =

@@ -9,7 +9,6 @@ use lib.Dec.{leb, ltb, eqb}
 use lib.ListN.{length}
 use borrow.Author.Tests.{leb-true, le-leb, lt-leb, ltb-true, ltb-false}
 use Rattle.numbers.specs.Bytes.{byte}
-use Rattle.oce_model.specs.Format.{longestImage}
 use Rattle.oce_model.specs.Image.{fieldAt, fieldEnd, fields, fieldsFrom, ordOf, stop, stopFrom}
 use Rattle.oce_model.specs.declared.Field.{Field}
 use Rattle.image_framing.specs.Walk.{Walking, after, endOf, from, placed, start, stops}
@@ -108,6 +107,15 @@ module _ {s : List ℕ} {f : Field} {rest : List Field} (w : Walking s f rest) w
       go zero m = sym m
       go (suc k) m = sym (rw (lt-leb (endOf f) (length s) h) at m)
 
+  -- and none is left
+  pub walk-none : length s < endOf f → rest ≡ []
+  unfolding from
+  walk-none h = w .is ∙ go (w .fuel)
+    where
+      go : (k : ℕ) → from k s f ≡ []
+      go zero = refl
+      go (suc k) = rw (lt-leb (endOf f) (length s) h)
+
   pub walk-stop : length s ≤ f .at → stop s ≡ length s
   walk-stop h =
       let e : stop s ≡ f .at = walk-cut (omega arith) in
@@ -115,12 +123,7 @@ module _ {s : List ℕ} {f : Field} {rest : List Field} (w : Walking s f rest) w
       omega arith
 
   pub walk-end : length s ≤ f .at → rest ≡ []
-  unfolding from
-  walk-end h = w .is ∙ go (w .fuel)
-    where
-      go : (k : ℕ) → from k s f ≡ []
-      go zero = refl
-      go (suc k) = let l : length s < endOf f = omega arith in rw (lt-leb (endOf f) (length s) l)
+  walk-end h = walk-none (omega arith)
 
 -- ---- a field that runs past the end, or doesn't, as code tests it
 
@@ -130,6 +133,3 @@ module _ (s : List ℕ) (f : Field) {r : Bool} (e : r ≡ ltb (length s) (endOf 
 
   pub within-end : r ≡ false → endOf f ≤ length s
   within-end h = ltb-false (length s) (endOf f) (sym e ∙ h)
-
-  pub within-longest : r ≡ false → length s ≤ longestImage → endOf f ≤ longestImage
-  within-longest h l = let w = within-end h in omega arith

@@ -109,7 +109,7 @@ pub fn first_field(s: &[u8]) -> Field
 
 // The field behind f.
 pub fn next_field(s: &[u8], f: Field) -> Field
-    requires { ⌜ (endOf f ≤ longestImage) × (f .ord ≤ f .at) ⌝ }
+    requires { ⌜ (endOf f ≤ length (now s)) × (f .ord ≤ f .at) ⌝ }
     ensures { λ r. ⌜ (r ≡ after (now (s .entry)) f) × (r .len < shortRange) ⌝ }
 {
     field_at(s, f.at + LEADING_BYTES + f.len, f.tag, f.ord + 1)
@@ -119,7 +119,7 @@ pub fn next_field(s: &[u8], f: Field) -> Field
 
 // Refusal 2: the field's leading bytes or its contents run past the image's end.
 pub fn runs_past(s: &[u8], f: Field) -> bool
-    requires { ⌜ (f .at ≤ longestImage) × (f .len < shortRange) ⌝ }
+    requires { ⌜ (f .at ≤ length (now s)) × (f .len < shortRange) ⌝ }
     ensures { λ r. ⌜ r ≡ ltb (length (now (s .entry))) (endOf f) ⌝ }
 {
     s.len() < f.at + LEADING_BYTES + f.len

@@ -2,7 +2,7 @@
 use Prim.Native.Nat.{_-_}
 use lib.ListN.{length}
 use borrow.Author.Needs.{needs}
-use Rattle.image_framing.proofs.Walks.{within-end, within-longest, walk-less}
+use Rattle.image_framing.proofs.Walks.{within-end, walk-less}
 use Rattle.image_accept.proofs.Sifts.{sieving-past, sieving-end, sieving-fault, Listing, listing-start, listing-turn, listing-past, listing-end, listing-fault}
 use Rattle.image_accept.proofs.list_section.Statement.{statement}
 use Rattle.image_accept.proofs.list_section.Tie as tie
@@ -38,7 +38,7 @@ list-section-spec =
     (λ c κs.
     let turn = c .before .before .before .before .before .before .before .before .before in
     let inv = turn .loop .inv .sieves in
-    (within-longest (turn .before .before .before .args .s .now) (turn .loop .g) (c .before .before .before .before .runs-past .ensures) (c .before .before .before .if3 .left) (inv .rising .short), inv .rising .walk .few))
+    (within-end (turn .before .before .before .args .s .now) (turn .loop .g) (c .before .before .before .before .runs-past .ensures) (c .before .before .before .if3 .left), inv .rising .walk .few))
     (λ c. search (walk-less, needs))
     (λ c.
     let turn = c .before .before .before .before .before .before .before .before .before .before in

@@ -3,7 +3,7 @@ use Prim.Native.Nat.{_-_}
 use lib.ListN.{length}
 use borrow.Author.Needs.{needs}
 use Rattle.oce_model.specs.Refusals.{fault}
-use Rattle.image_framing.proofs.Finds.{Seeking, seeking-start, seeking-room, seeking-turn, seeking-found, seeking-none}
+use Rattle.image_framing.proofs.Finds.{Seeking, seeking-start, seeking-fits, seeking-turn, seeking-found, seeking-none}
 use Rattle.image_framing.proofs.Walks.{walk-less}
 use Rattle.image_framing.proofs.first_fault.Statement.{statement}
 use Rattle.image_framing.proofs.first_fault.Tie as tie
@@ -24,7 +24,7 @@ first-fault-spec =
     (λ c. search (seeking-start, needs))
     (λ c κs. search needs)
     (λ c. search (seeking-found, needs))
-    (λ c κs. search (seeking-room, needs))
+    (λ c κs. search (seeking-fits, needs))
     (λ c. search (walk-less, needs))
     (λ c. search (seeking-turn, needs))
     (λ c. search (seeking-none, needs)))

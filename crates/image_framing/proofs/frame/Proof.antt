@@ -3,7 +3,7 @@ use Prim.Native.Nat.{_-_}
 use lib.ListN.{length}
 use borrow.Author.Needs.{needs}
 use Rattle.image_framing.proofs.Finds.{Framing, framing-start, framing-turn, framing-cut, framing-whole}
-use Rattle.image_framing.proofs.Walks.{past-end, within-end, within-longest, walk-less}
+use Rattle.image_framing.proofs.Walks.{past-end, within-end, walk-less}
 use Rattle.image_framing.proofs.frame.Statement.{statement}
 use Rattle.image_framing.proofs.frame.Tie as tie
 
@@ -24,7 +24,7 @@ frame-spec =
     (λ c κs. search needs)
     (λ c. search (framing-cut, past-end, needs))
     (λ c κs. search needs)
-    (λ c κs. search (within-longest, needs))
+    (λ c κs. search (within-end, needs))
     (λ c. search (walk-less, needs))
     (λ c. search (framing-turn, within-end, needs))
     (λ c. search (framing-whole, needs)))
