@@ -8,13 +8,14 @@ use oracle::generator::generate_with_family;
 use oracle::random::Random;
 use oracle::reader::read;
 
+use crate::batches::Single;
 use crate::fields::Fields;
 use crate::heavy;
 use crate::lent::{GUARD, Lent, MOST, Pattern};
 use crate::sums::Sums;
 
 const REFUSED_FILLED: u32 = 9;
-const REFUSED_REPORT: u32 = 10;
+pub const REFUSED_REPORT: u32 = 10;
 
 /// Names of the calls, for the table and for differences.
 const ROOM: &str = "with room to spare";
@@ -85,6 +86,10 @@ pub struct Comparison {
     pub sums: Sums,
 }
 
+/// What an image gives: the answer, the report's bytes, and what the oracle tells where it can be
+/// compared.
+type Given = (OceAnswer, Vec<u8>, Option<Report>);
+
 /// The lengths lent in one call, and its name.
 #[derive(Clone, Copy)]
 struct Room {
@@ -105,10 +110,10 @@ impl Comparison {
         }
     }
 
-    /// Compare the image of an index; what differs first, if anything does.
-    pub fn image(&mut self, index: u64) -> Result<(), String> {
+    /// Compare the image of an index, if there is one; what it gives, or what differs first.
+    pub fn image(&mut self, index: u64) -> Result<Option<Single>, String> {
         let Some((family, image)) = self.source.image(index) else {
-            return Ok(());
+            return Ok(None);
         };
         let mut r = Random::new(!self.source.seed(), index);
         self.sums.images += 1;
@@ -116,10 +121,17 @@ impl Comparison {
         let found = self.compare(&mut r, &image);
         let found = found.map_err(|what| format!("family {family}: {what}"));
         *self.sums.families.entry(family).or_default() += 1;
-        found
+        let (answer, report, told) = found?;
+        Ok(Some(Single {
+            index: Some(index),
+            image,
+            answer,
+            report,
+            told,
+        }))
     }
 
-    fn compare(&mut self, r: &mut Random, image: &[u8]) -> Result<(), String> {
+    fn compare(&mut self, r: &mut Random, image: &[u8]) -> Result<Given, String> {
         let accepted = match read(image) {
             Ok(accepted) => accepted,
             Err(refusal) => {
@@ -128,22 +140,29 @@ impl Comparison {
                     filled: r.pick(&[0, 1, image.len(), image.len() + 40]),
                     report: r.pick(&[0, 1, DIAGNOSTIC_LEN, 4_000]),
                 };
-                return self.refused(r, image, room, u32::from(refusal.number), refusal.at);
+                let answer = self.refused(r, image, room, refusal.number.into(), refusal.at)?;
+                return Ok((answer, Vec::new(), None));
             }
         };
         self.sums.accepted += 1;
         let told = accepted.comparable().then(|| report(&accepted));
-        let diagnostics = match &told {
+        let (answer, size) = match &told {
             Some(told) => self.compared(r, image, told)?,
             None => self.only_called(r, image)?,
         };
-        self.too_short(r, image, diagnostics * DIAGNOSTIC_LEN)
+        let report = self.report.start(size).to_vec();
+        self.too_short(r, image, size)?;
+        Ok((answer, report, told))
     }
 
     /// An image whose whole answer the oracle tells: with room to spare, then with none.
-    fn compared(&mut self, r: &mut Random, image: &[u8], told: &Report) -> Result<usize, String> {
-        let diagnostics = told.diagnostics.len();
-        let size = diagnostics * DIAGNOSTIC_LEN;
+    fn compared(
+        &mut self,
+        r: &mut Random,
+        image: &[u8],
+        told: &Report,
+    ) -> Result<(OceAnswer, usize), String> {
+        let size = told.diagnostics.len() * DIAGNOSTIC_LEN;
         let fields = Fields::of(image);
         let mut filled = image.to_vec();
         for slot in &told.filled {
@@ -159,18 +178,18 @@ impl Comparison {
             filled: image.len(),
             report: size,
         };
+        let expected = OceAnswer {
+            refusal: 0,
+            at: 0,
+            errors: told.errors() as u32,
+            warnings: told.warnings() as u32,
+        };
         for room in [spare, exact] {
             let answer = self.call(r, image, room)?;
-            let expected = OceAnswer {
-                refusal: 0,
-                at: 0,
-                errors: told.errors() as u32,
-                warnings: told.warnings() as u32,
-            };
             if answer != expected {
                 return Err(self.differs(room, format!("{answer:?} instead of {expected:?}")));
             }
-            self.report_as_told(image, &fields, told)
+            report_as_told(image, &fields, self.report.start(size), told)
                 .map_err(|what| self.differs(room, what))?;
             let here = self.filled.start(image.len());
             if let Some(at) = (0..image.len()).find(|&at| here[at] != filled[at]) {
@@ -183,26 +202,11 @@ impl Comparison {
             self.untouched(room, image.len(), size)?;
         }
         self.count(told);
-        Ok(diagnostics)
-    }
-
-    /// The report's bytes against what the oracle tells. It doesn't tell 5.4's place and text
-    /// number; of that text the bytes are compared.
-    fn report_as_told(&self, image: &[u8], fields: &Fields, told: &Report) -> Result<(), String> {
-        let bytes = self.report.start(told.diagnostics.len() * DIAGNOSTIC_LEN);
-        let each = bytes.chunks_exact(DIAGNOSTIC_LEN).zip(&told.diagnostics);
-        for (number, (bytes, told)) in each.enumerate() {
-            if let Some(what) = diagnostic_differs(image, fields, bytes, told) {
-                return Err(format!(
-                    "diagnostic {number}: {what}; bytes {bytes:?}, the oracle tells {told:?}"
-                ));
-            }
-        }
-        Ok(())
+        Ok((expected, size))
     }
 
     /// An image with other Integer defaults: that it is checked, and what isn't touched.
-    fn only_called(&mut self, r: &mut Random, image: &[u8]) -> Result<usize, String> {
+    fn only_called(&mut self, r: &mut Random, image: &[u8]) -> Result<(OceAnswer, usize), String> {
         self.sums.other_defaults += 1;
         let room = Room {
             name: ROOM,
@@ -213,19 +217,19 @@ impl Comparison {
         if (answer.refusal, answer.at) != (0, 0) {
             return Err(self.differs(room, format!("{answer:?} for an accepted image")));
         }
-        let diagnostics = answer.errors as usize + answer.warnings as usize;
-        self.untouched(room, image.len(), diagnostics * DIAGNOSTIC_LEN)?;
+        let size = (answer.errors as usize + answer.warnings as usize) * DIAGNOSTIC_LEN;
+        self.untouched(room, image.len(), size)?;
         let room = Room {
             name: EXACT,
             filled: image.len(),
-            report: diagnostics * DIAGNOSTIC_LEN,
+            report: size,
         };
         let again = self.call(r, image, room)?;
         if again != answer {
             return Err(self.differs(room, format!("{again:?} instead of {answer:?}")));
         }
         self.untouched(room, room.filled, room.report)?;
-        Ok(diagnostics)
+        Ok((answer, size))
     }
 
     /// Refusals 9 and 10 of an accepted image whose report has `size` bytes.
@@ -257,7 +261,8 @@ impl Comparison {
             filled: whole + r.below(100),
             report: r.below(size),
         };
-        self.refused(r, image, shorter, REFUSED_REPORT, size as u32)
+        self.refused(r, image, shorter, REFUSED_REPORT, size as u32)?;
+        Ok(())
     }
 
     /// A call that must be refused so, and leave everything as it was.
@@ -268,7 +273,7 @@ impl Comparison {
         room: Room,
         refusal: u32,
         at: u32,
-    ) -> Result<(), String> {
+    ) -> Result<OceAnswer, String> {
         let answer = self.call(r, image, room)?;
         let expected = OceAnswer {
             refusal,
@@ -281,7 +286,7 @@ impl Comparison {
         }
         self.untouched(room, 0, 0)?;
         *self.sums.refusals.entry(refusal).or_default() += 1;
-        Ok(())
+        Ok(answer)
     }
 
     /// Call the library on an image and buffers between guard bytes; the image must stay as it is.
@@ -341,6 +346,25 @@ impl Comparison {
             }
         }
     }
+}
+
+/// A report's bytes against what the oracle tells. It doesn't tell 5.4's place and text number; of
+/// that text the bytes are compared.
+pub fn report_as_told(
+    image: &[u8],
+    fields: &Fields,
+    report: &[u8],
+    told: &Report,
+) -> Result<(), String> {
+    let each = report.chunks_exact(DIAGNOSTIC_LEN).zip(&told.diagnostics);
+    for (number, (bytes, told)) in each.enumerate() {
+        if let Some(what) = diagnostic_differs(image, fields, bytes, told) {
+            return Err(format!(
+                "diagnostic {number}: {what}; bytes {bytes:?}, the oracle tells {told:?}"
+            ));
+        }
+    }
+    Ok(())
 }
 
 /// What differs between a diagnostic's bytes and what the oracle tells of it.

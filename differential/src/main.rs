@@ -1,18 +1,21 @@
 //! Compares the static library with the oracle on generated images, or on the benchmark's and those
-//! that are built to be slow. Usage: differential COUNT SEED|bench [JOBS]
+//! that are built to be slow, and on batches of them. Usage: differential COUNT SEED|bench [JOBS]
 
 use std::process::ExitCode;
 use std::sync::Mutex;
 use std::sync::atomic::{AtomicU64, AtomicUsize, Ordering};
 
+use differential::batches::Batches;
 use differential::compare::{Comparison, Source};
 use differential::sums::Sums;
 use oracle::tool::{self, number};
 
-/// The program goes on until it has found so many images that differ.
+/// The program goes on until it has found so many images and batches that differ.
 const MOST_DIFFERENCES: usize = 10;
-/// A thread takes so many images at a time.
+/// A thread takes so many images at a time, and makes batches of them.
 const CHUNK: u64 = 64;
+/// Once for so many images there are batches with as many images as there may be, and with more.
+const FULL: u64 = 64 * CHUNK;
 
 fn main() -> ExitCode {
     tool::run("differential", |arguments| {
@@ -33,11 +36,14 @@ fn main() -> ExitCode {
         print!("seed {seed}, from image 0\n\n{}", sums.table());
         if differences > 0 {
             return Err(format!(
-                "{differences} images differ among {} compared",
-                sums.images
+                "{differences} differ among {} images and {} batches compared",
+                sums.images, sums.batches
             ));
         }
-        Ok(format!("\n{} images, 0 differ\n", sums.images).into_bytes())
+        let Sums {
+            images, batches, ..
+        } = sums;
+        Ok(format!("\n{images} images, 0 differ\n{batches} batches, 0 differ\n").into_bytes())
     })
 }
 
@@ -47,23 +53,37 @@ fn run(count: u64, source: Source, jobs: u64) -> (Sums, usize) {
     let all = Mutex::new(Sums::default());
     let job = || {
         let mut comparison = Comparison::new(source);
+        let mut batches = Batches::new(source.seed());
+        // tells of a difference, but of no more than there may be
+        let found = |which: &str, index: u64, what: String| {
+            if differences.fetch_add(1, Ordering::Relaxed) < MOST_DIFFERENCES {
+                eprintln!("seed {}, {which} {index}: {what}", source.seed());
+            }
+        };
         loop {
             let first = next.fetch_add(CHUNK, Ordering::Relaxed);
             if first >= count || differences.load(Ordering::Relaxed) >= MOST_DIFFERENCES {
                 break;
             }
+            let mut singles = Vec::new();
             for index in first..count.min(first + CHUNK) {
-                let Err(what) = comparison.image(index) else {
-                    continue;
-                };
-                if differences.fetch_add(1, Ordering::Relaxed) >= MOST_DIFFERENCES {
-                    break;
+                match comparison.image(index) {
+                    Ok(single) => singles.extend(single),
+                    Err(what) => found("index", index, what),
                 }
-                eprintln!("seed {}, index {index}: {what}", source.seed());
+            }
+            if let Err(what) = batches.of(first, &singles) {
+                found("batches from index", first, what);
+            }
+            if first.is_multiple_of(FULL)
+                && let Err(what) = batches.full(first, &singles)
+            {
+                found("full batches from index", first, what);
             }
         }
         if let Ok(mut all) = all.lock() {
             all.add(comparison.sums);
+            all.add(batches.sums);
         }
     };
     std::thread::scope(|scope| {

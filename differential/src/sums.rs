@@ -22,6 +22,15 @@ pub struct Sums {
     pub calls: BTreeMap<&'static str, usize>,
     /// Refusals that the library gave and the oracle or the lent lengths ask for, by number.
     pub refusals: BTreeMap<u32, usize>,
+    /// Batches without a field at fault, their images and bytes, and the bytes of their outputs.
+    pub batches: usize,
+    pub batch_images: usize,
+    pub batch_bytes: usize,
+    pub output_bytes: usize,
+    /// Images that are too long for a field.
+    pub beyond_fields: usize,
+    /// Calls for batches, by what was lent.
+    pub batch_calls: BTreeMap<&'static str, usize>,
     /// By rule and detail: images and diagnostics.
     pub details: BTreeMap<(u8, u8), (usize, usize)>,
 }
@@ -37,11 +46,19 @@ impl Sums {
         self.with_filling += other.with_filling;
         self.filled_records += other.filled_records;
         self.diagnostics += other.diagnostics;
+        self.batches += other.batches;
+        self.batch_images += other.batch_images;
+        self.batch_bytes += other.batch_bytes;
+        self.output_bytes += other.output_bytes;
+        self.beyond_fields += other.beyond_fields;
         for (key, count) in other.families {
             *self.families.entry(key).or_default() += count;
         }
         for (key, count) in other.calls {
             *self.calls.entry(key).or_default() += count;
+        }
+        for (key, count) in other.batch_calls {
+            *self.batch_calls.entry(key).or_default() += count;
         }
         for (key, count) in other.refusals {
             *self.refusals.entry(key).or_default() += count;
@@ -75,8 +92,21 @@ impl Sums {
         for (name, calls) in &self.calls {
             let _ = writeln!(out, "| {name} | {calls} |");
         }
+        let _ = write!(
+            out,
+            "\nbatches {}, their images {}, bytes {}, bytes of outputs {}; images in no batch, too long for a \
+             field {}\n\n| batch and output lent | calls |\n|---|---|\n",
+            self.batches,
+            self.batch_images,
+            self.batch_bytes,
+            self.output_bytes,
+            self.beyond_fields
+        );
+        for (name, calls) in &self.batch_calls {
+            let _ = writeln!(out, "| {name} | {calls} |");
+        }
         out.push_str("\n| refusal | calls |\n|---|---|\n");
-        for number in 1..=10 {
+        for number in 1..=12 {
             let calls = self.refusals.get(&number).copied().unwrap_or(0);
             let _ = writeln!(out, "| {number} | {calls} |");
         }

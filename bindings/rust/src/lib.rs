@@ -2,13 +2,19 @@
 //! rule are.
 //!
 //! [`check`] works on bytes that the caller lends and allocates nothing; [`check_image`] makes the
-//! buffers itself and takes the report apart.
+//! buffers itself and takes the report apart. [`check_batch`] and [`check_images`] do the same for
+//! many images in one call.
 
 mod answer;
+mod batch;
 mod diagnostic;
 pub mod sys;
 
 pub use answer::{Checked, Refusal};
+pub use batch::{
+    BATCH_IMAGES_MOST, BATCH_STACK_SIZE, BatchRefusal, Reported, Results, SUMMARY_SIZE, TooLong,
+    Unchecked, check_batch, check_images, push_image, results,
+};
 pub use diagnostic::{
     Code, DIAGNOSTIC_SIZE, Diagnostic, Diagnostics, Severity, Subject, diagnostics,
 };

@@ -1,11 +1,12 @@
-//! Times the library's checking call beside the oracle's six rules on the oracle's fixed images.
-//! Usage: bench [COUNT]
+//! Times the library's checking call beside the oracle's six rules on the oracle's fixed images, and
+//! its call for a batch beside single calls. Usage: bench [COUNT]
 //!
 //! The oracle is timed as its own benchmark does it: models that are already in its structures. The
 //! library's time includes reading the image.
 
 use std::fmt::Write;
 use std::hint::black_box;
+use std::ops::Range;
 use std::process::ExitCode;
 use std::time::{Duration, Instant};
 
@@ -23,6 +24,9 @@ const STEP: usize = 8_192;
 const REPORT_ROOM: usize = 1 << 19;
 /// Draws of each case at a limit.
 const LIMIT_DRAWS: u64 = 20;
+/// Batches are made of so many of the first images, many and those of a shift, and each way to check
+/// them is run so often: a multiple of the number of ways.
+const BATCHES: [(u64, usize); 2] = [(1_000, 15), (40, 150)];
 
 #[derive(Clone, Copy)]
 struct Times {
@@ -61,6 +65,7 @@ fn main() -> ExitCode {
             "\nImages at the format's limits: {}",
             limits(&mut buffers)
         );
+        batch_table(&mut out, count, &mut buffers)?;
         Ok(out.into_bytes())
     })
 }
@@ -104,6 +109,119 @@ fn time(image: &[u8], buffers: &mut Buffers) -> (Times, Result<oce::Checked, oce
         least,
     };
     (times, answer)
+}
+
+/// A batch, the bytes that its output needs, and where its images stand.
+struct Batch {
+    bytes: Vec<u8>,
+    output: Vec<u8>,
+    images: Vec<Range<usize>>,
+}
+
+impl Batch {
+    fn of_first(count: u64) -> Result<Self, String> {
+        let (mut bytes, mut images) = (Vec::new(), Vec::new());
+        for index in 0..count {
+            let image = image(index);
+            oce::push_image(&mut bytes, &image).map_err(|e| format!("image {index}: {e}"))?;
+            images.push(bytes.len() - image.len()..bytes.len());
+        }
+        match oce::check_batch(&bytes, &mut []) {
+            Err(oce::BatchRefusal::OutputShort { needed }) => Ok(Self {
+                bytes,
+                output: vec![0; needed],
+                images,
+            }),
+            other => Err(format!("no output asked for: {other:?}")),
+        }
+    }
+
+    /// Check all images one way; how many diagnostics they have.
+    fn check(&mut self, way: Way, buffers: &mut Buffers) -> Result<usize, String> {
+        let Buffers { filled, report } = buffers;
+        let fault = |refusal: oce::Refusal| refusal.to_string();
+        if let Way::Batch = way {
+            oce::check_batch(black_box(&self.bytes), &mut self.output)
+                .map_err(|refusal| refusal.to_string())?;
+            let bytes = self.output.len() - oce::SUMMARY_SIZE * self.images.len();
+            return Ok(bytes / DIAGNOSTIC_LEN);
+        }
+        let mut diagnostics = 0;
+        for at in &self.images {
+            let image = black_box(&self.bytes[at.clone()]);
+            let room = match way {
+                Way::RoomAtOnce => report.len(),
+                _ => 0,
+            };
+            let checked = match oce::check(image, filled, &mut report[..room]) {
+                Err(oce::Refusal::ReportShort { needed }) => {
+                    let report = &mut report[..needed as usize];
+                    black_box(oce::check(image, filled, report)).map_err(fault)?
+                }
+                other => black_box(other).map_err(fault)?,
+            };
+            diagnostics += checked.diagnostics();
+        }
+        Ok(diagnostics)
+    }
+}
+
+/// A way to check the images of a batch.
+#[derive(Clone, Copy)]
+enum Way {
+    /// In one call, with an output of the exact length.
+    Batch,
+    /// One by one: without room for a report, then with the bytes needed where there is one.
+    LengthAsked,
+    /// One by one, with room for the longest report.
+    RoomAtOnce,
+}
+
+const WAYS: [Way; 3] = [Way::Batch, Way::LengthAsked, Way::RoomAtOnce];
+
+/// Images in one call beside single calls for the same images. The ways take turns, each as often
+/// first as the others.
+fn batch_table(out: &mut String, count: u64, buffers: &mut Buffers) -> Result<(), String> {
+    let _ = write!(
+        out,
+        "\nA batch: the first images in one call with an output of the exact length, beside single calls for the same: \
+         without room for a report and then with the bytes needed, and with room at once. Milliseconds for all images; \
+         the three take turns. Ratio is the batch's time to the single calls'.\n\n\
+         | images | diagnostics | runs | batch | length asked | ratio | room at once | ratio |\n\
+         |---|---|---|---|---|---|---|---|\n"
+    );
+    for (images, runs) in BATCHES {
+        let images = images.min(count);
+        let mut batch = Batch::of_first(images)?;
+        let mut times = WAYS.map(|_| Vec::new());
+        let mut diagnostics = None;
+        for run in 0..runs {
+            for turn in 0..WAYS.len() {
+                let which = (run + turn) % WAYS.len();
+                let start = Instant::now();
+                let found = batch.check(WAYS[which], buffers)?;
+                times[which].push(start.elapsed());
+                if *diagnostics.get_or_insert(found) != found {
+                    return Err("a batch has other diagnostics than its images".to_owned());
+                }
+            }
+        }
+        let first = times.each_ref().map(|t| t[0]);
+        times.iter_mut().for_each(|t| t.sort());
+        let least = times.each_ref().map(|t| t[0]);
+        let median = times.each_ref().map(|t| t[runs / 2]);
+        for (name, times) in [("least", least), ("median", median), ("first", first)] {
+            let [batch, asked, room] = times.map(|t| t.as_secs_f64() * 1e3);
+            let _ = writeln!(
+                out,
+                "| {images} | {} | {name} of {runs} | {batch:.3} | {asked:.3} | {:.3} | {room:.3} | {:.3} |",
+                diagnostics.unwrap_or_default(),
+                batch / asked,
+                batch / room
+            );
+        }
+    }
+    Ok(())
 }
 
 /// Images that are built to be slow, by the oracle and by the library.
