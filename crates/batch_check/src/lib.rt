@@ -1,11 +1,13 @@
 // The checking call for a batch of images.
+use base::copy_at;
 use batch::BatchAnswer;
 use batch::MOST_IMAGES;
+use batch::SUMMARY_SIZE;
 use batch::Summary;
 use batch_framing::find_fault;
 use batch_framing::image_in;
 use batch_image::size_of;
-use batch_image::summarize;
+use batch_image::summarize_at;
 use batch_image::write_image;
 use image_framing::Found;
 use image_framing::first_field;
@@ -20,13 +22,17 @@ ghost use Rattle.batch.specs.Output.{imageOutput, batchOutput, bytesNeeded};
 ghost use Rattle.batch.specs.Answer.{batchAnswer, batchNumbers, outputAfter};
 ghost use Rattle.batch_framing.specs.Clean.{Clean};
 ghost use Rattle.batch_image.specs.Summarized.{Summarized};
-ghost use Rattle.batch_check.specs.Kept.{keptLength, summaryAt, withSummary, Noted, Kept};
+ghost use Rattle.batch_check.specs.Kept.{keptLength, summaryAt, withSummary, Noted, Begun, Kept};
 ghost use Rattle.batch_check.specs.Called.{Measured, Called};
 
 // Numbers of a summary.
 const WIDTH: usize = 4;
 
 const KEPT: usize = WIDTH * MOST_IMAGES;
+
+// Room for an output that is written before it is known whether the caller's buffer has room for it: a field for each of
+// the most images.
+const EARLY: usize = SUMMARY_SIZE * MOST_IMAGES;
 
 // ---- what is kept of each image
 
@@ -58,25 +64,26 @@ fn keep(kept: &mut [u32], i: usize, r: Summary)
 
 // ---- what the output needs
 
-// Keeps the summary of the image in a field; the bytes that it needs.
-fn measure_image(batch: &[u8], f: Field, kept: &mut [u32]) -> usize
+// Keeps the summary of the image in a field; the bytes that it needs. Its part of the output stands in early from index o
+// on, if it fits there.
+fn measure_image(batch: &[u8], f: Field, kept: &mut [u32], early: &mut [u8], o: usize) -> usize
     requires { ⌜ (f .at ≤ length (now batch)) × (f .ord < mostImages) × (length (now kept) ≡ keptLength) ⌝ }
-    ensures { λ n. ⌜ Noted (imageIn (now (batch .entry)) f) (f .ord) (now (kept .entry)) (now (kept .exit)) n ⌝ }
+    ensures { λ n. ⌜ Noted (imageIn (now (batch .entry)) f) (f .ord) (now (kept .entry)) (now (kept .exit)) n × Begun (imageIn (now (batch .entry)) f) o (now (early .entry)) (now (early .exit)) ⌝ }
 {
-    let r = summarize(image_in(batch, f));
+    let r = summarize_at(image_in(batch, f), early, o);
     keep(kept, f.ord, r);
     size_of(r)
 }
 
-// Keeps the summaries of all images; the bytes of the whole output.
-fn measure(batch: &[u8], kept: &mut [u32]) -> usize
+// Keeps the summaries of all images; the bytes of the whole output, which early begins with, if it fits there.
+fn measure(batch: &[u8], kept: &mut [u32], early: &mut [u8]) -> usize
     requires { ⌜ Clean (now batch) × (length (now kept) ≡ keptLength) ⌝ }
-    ensures { λ needed. ⌜ Measured (now (batch .entry)) (now (kept .exit)) needed ⌝ }
+    ensures { λ needed. ⌜ Measured (now (batch .entry)) (now (kept .exit)) (now (early .exit)) needed ⌝ }
 {
     let mut f = first_field(batch);
     let mut needed = 0;
     while f.at < batch.len() {
-        needed += measure_image(batch, f, kept);
+        needed += measure_image(batch, f, kept, early, needed);
         f = next_field(batch, f);
     }
     needed
@@ -109,20 +116,33 @@ fn write_all(batch: &[u8], kept: &[u32], output: &mut [u8])
 
 // ---- the call
 
+// Writes the whole output: a copy, if early has it.
+fn write_output(batch: &[u8], kept: &[u32], early: &[u8], needed: usize, output: &mut [u8])
+    requires { ⌜ Clean (now batch) × Measured (now batch) (now kept) (now early) needed × (needed ≤ length (now output)) ⌝ }
+    ensures { λ _. ⌜ now (output .exit) ≡ startsWith (batchOutput (now (batch .entry))) (now (output .entry)) ⌝ }
+{
+    if needed <= early.len() {
+        copy_at(output, 0, &early[0..needed]);
+        return;
+    }
+    write_all(batch, kept, output);
+}
+
 // A batch without a field at fault: refusal 12, or its output.
 fn check_images(batch: &[u8], output: &mut [u8]) -> BatchAnswer
     requires { ⌜ Clean (now batch) ⌝ }
     ensures { λ a. ⌜ Called (now (batch .entry)) (now (output .entry)) a (now (output .exit)) ⌝ }
 {
     let mut kept = [0u32; KEPT];
-    let needed = measure(batch, &mut kept);
+    let mut early = [0u8; EARLY];
+    let needed = measure(batch, &mut kept, &mut early);
     if output.len() < needed {
         return BatchAnswer::Refused {
             number: 12,
             at: needed,
         };
     }
-    write_all(batch, &kept, output);
+    write_output(batch, &kept, &early, needed, output);
     BatchAnswer::Written(needed)
 }
 

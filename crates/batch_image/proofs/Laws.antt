@@ -1,14 +1,15 @@
 -- One image of a batch: its summary, the bytes it needs, and its part of the output.
-use Prim.Native.Nat.{ℕ, _+_, _-_, _*_, _≤_}
+use Prim.Native.Nat.{ℕ, _+_, _-_, _*_, _≤_, _<_}
+use native.Mathlib.Nat.{zero-add}
 use native.Mathlib.Omega.{arith}
 use mathlib.Core.Path.{_≡_, refl, sym, ap, _∙_}
 use mathlib.Core.List.{List, [], _∷_, _++_, append-assoc, append-nil}
 use mathlib.Core.Option.{Option, none, some}
-use lib.ListN.{length, drop, length-append, length-drop, drop-of-length-le}
-use lib.Seq.{length-take-le, take-all, take-append-seam, drop-append-seam, drop-drop}
+use lib.ListN.{length, take, drop, length-append, length-drop, drop-of-length-le}
+use lib.Seq.{length-take-le, take-all, take-take, take-append-le, drop-append-seam, drop-drop}
 use borrow.Rule.Slice.PartMut.{putMid, midOf}
 use Rattle.base.specs.Buffers.{patch, startsWith}
-use Rattle.base.proofs.Buffers.{startsWith-none, startsWith-patch, startsWith-length}
+use Rattle.base.proofs.Buffers.{patch-patch, startsWith-none, startsWith-patch, startsWith-length}
 use Rattle.numbers.specs.Bytes.{leBytes}
 use Rattle.oce_model.specs.Model.{modelOf}
 use Rattle.oce_model.specs.Refusals.{Refusal, refusal}
@@ -26,7 +27,7 @@ use Rattle.outcome.specs.Answer.{reportOf}
 use Rattle.rules.specs.Ran.{Ran}
 use Rattle.batch.specs.Output.{summarySize, summaryBy, summaryOf, reportBy, imageReport, summaryBytes, imageOutput}
 use Rattle.batch.specs.declared.Summary.{Summary}
-use Rattle.batch_image.specs.Summarized.{Counting, Summarized, Summed, sizeOf}
+use Rattle.batch_image.specs.Summarized.{Counting, Summarized, Summed, Placed, sizeOf}
 
 -- ---- the check
 
@@ -116,8 +117,8 @@ module _ {s : List ℕ} {r : Summary} (v : Summarized s r) where
   field-fits : {n : ℕ} → length (imageOutput s) ≤ n → summarySize ≤ n
   field-fits h = let e = output-size in omega arith
 
-  pub field-room : (o : List ℕ) {h : List ℕ} → h ≡ summaryBytes r → length (imageOutput s) ≤ length o → 0 + length h ≤ length o
-  field-room o e l = let n = summaryBytes-length r in let k = field-fits l in rw e (omega arith)
+  pub field-room : (o : List ℕ) → length (imageOutput s) ≤ length o → 0 + summarySize ≤ length o
+  field-room o l = let k = field-fits l in omega arith
 
   none-due : r .errors + r .warnings ≡ 0 → imageReport s ≡ []
   none-due z = arm (known v)
@@ -126,18 +127,39 @@ module _ {s : List ℕ} {r : Summary} (v : Summarized s r) where
       arm (turned e _) = e
       arm (told e n) = e ∙ empty (reportOf s) (sym n ∙ z)
 
+pub field-bytes : (r : Summary) (o : List ℕ) (at : ℕ) {h o₁ : List ℕ} → h ≡ summaryBytes r → o₁ ≡ patch o at h → o₁ ≡ patch o at (summaryBytes r)
+field-bytes r o at e p = p ∙ ap (patch o at) e
+
 -- ---- its part of the output
 
--- a second text written into the part behind the first one
-part-behind : (a : ℕ) (l d xs ys zs : List ℕ) (k : ℕ) → a ≡ length l → length xs ≤ a + k → ys ≡ startsWith l xs → zs ≡ startsWith d (midOf a k ys) → putMid a k ys zs ≡ startsWith (l ++ d) xs
-unfolding startsWith
-part-behind a l d xs ys zs k e h ey ez =
-    let rest : length (drop (length l) xs) ≤ k = simp length-drop (omega arith) in
-    simp (e, ez, ey, take-append-seam l, drop-append-seam l, take-all k (drop (length l) xs) rest, drop-of-length-le (drop (length l) xs) rest, append-nil, drop-drop, append-assoc, length-append)
+-- bytes written into the part of a buffer from an index on
+pub part-patched : (xs bs : List ℕ) (o k : ℕ) {zs : List ℕ} → zs ≡ startsWith bs (midOf o k xs) → k ≡ length xs - o → putMid o k xs zs ≡ patch xs o bs
+unfolding startsWith patch
+part-patched xs bs o k e l =
+    let rest : length (drop o xs) ≤ k = simp length-drop (omega arith) in
+    simp (e, take-all k (drop o xs) rest, drop-of-length-le (drop o xs) rest, append-nil, drop-drop, append-assoc)
 
-module _ {s : List ℕ} {r : Summary} (v : Summarized s r) (o : List ℕ) {h o₁ : List ℕ} (e : h ≡ summaryBytes r) (p : o₁ ≡ patch o 0 h) (room : length (imageOutput s) ≤ length o) where
+pub part-room : (xs : List ℕ) (o k n : ℕ) → k ≡ length xs - o → o + n ≤ length xs → n ≤ length (midOf o k xs)
+part-room xs o k n l h =
+    let d : length (drop o xs) ≡ length xs - o = length-drop o xs in
+    let f : length (midOf o k xs) ≡ k = length-take-le k (drop o xs) (omega arith) in
+    omega arith
+
+-- a patch before a patch is one patch
+patch-reversed : (xs fs bs : List ℕ) (o : ℕ) → o + length fs ≤ length xs → patch (patch xs (o + length fs) bs) o fs ≡ patch xs o (fs ++ bs)
+unfolding patch
+patch-reversed xs fs bs o h =
+    let front = take (o + length fs) xs in
+    let behind = drop (o + length fs + length bs) xs in
+    let n : length front ≡ o + length fs = length-take-le (o + length fs) xs h in
+    let before : take o (front ++ (bs ++ behind)) ≡ take o xs = take-append-le o front (bs ++ behind) (omega arith) ∙ take-take o (o + length fs) xs (omega arith) in
+    let after : drop (o + length fs) (front ++ (bs ++ behind)) ≡ bs ++ behind = rw n at (drop-append-seam front (bs ++ behind)) in
+    let e : o + length (fs ++ bs) ≡ o + length fs + length bs = rw (length-append fs bs) (omega arith) in
+    rw (append-assoc front bs behind, before, after, e) (simp append-assoc)
+
+module _ {s : List ℕ} {r : Summary} (v : Summarized s r) (o : List ℕ) {o₁ : List ℕ} (p : o₁ ≡ patch o 0 (summaryBytes r)) (room : length (imageOutput s) ≤ length o) where
   field-is : o₁ ≡ startsWith (summaryBytes (summaryOf s)) o
-  field-is = p ∙ ap (patch o 0) (e ∙ ap summaryBytes (v .is)) ∙ sym (startsWith-patch (summaryBytes (summaryOf s)) o)
+  field-is = p ∙ ap (λ x. patch o 0 (summaryBytes x)) (v .is) ∙ sym (startsWith-patch (summaryBytes (summaryOf s)) o)
 
   field-length : length o₁ ≡ length o
   field-length =
@@ -159,6 +181,38 @@ module _ {s : List ℕ} {r : Summary} (v : Summarized s r) (o : List ℕ) {h o�
       let g = field-length in
       let n = output-size v in
       let m = report-size v in
-      let d : length (drop summarySize o₁) ≡ length o₁ - summarySize = length-drop summarySize o₁ in
-      let f : length (midOf summarySize k o₁) ≡ k = length-take-le k (drop summarySize o₁) (omega arith) in
-      part-behind summarySize (summaryBytes (summaryOf s)) (imageReport s) o o₁ zs k (sym (summaryBytes-length (summaryOf s))) (omega arith) field-is (w .bytes (omega arith))
+      let b = summaryBytes-length (summaryOf s) in
+      let fits : 0 + length (summaryBytes (summaryOf s)) ≤ length o = omega arith in
+      let is : o₁ ≡ patch o 0 (summaryBytes (summaryOf s)) = field-is ∙ startsWith-patch (summaryBytes (summaryOf s)) o in
+      let two : patch o₁ (0 + length (summaryBytes (summaryOf s))) (imageReport s) ≡ patch o 0 (summaryBytes (summaryOf s) ++ imageReport s) = rw is (patch-patch o 0 (summaryBytes (summaryOf s)) (imageReport s) fits) in
+      part-patched o₁ (imageReport s) summarySize k (w .bytes (part-room o₁ summarySize k (length (imageReport s)) l (omega arith))) l
+      ∙ (rw (zero-add (length (summaryBytes (summaryOf s))), b) at two) ∙ sym (startsWith-patch (summaryBytes (summaryOf s) ++ imageReport s) o)
+
+-- ---- its part of the output, before it is known whether there is room for all
+
+module _ {s : List ℕ} {r : Summary} (o : ℕ) (e : List ℕ) where
+  -- no room for the field
+  pub placed-short : Summarized s r → length e < summarySize → Placed s o e e r
+  placed-short v h = record { summarized = v; bytes = λ l. absurd (let n = output-size v in omega arith) }
+
+  pub placed-far : Summarized s r → length e - summarySize < o → Placed s o e e r
+  placed-far v h = record { summarized = v; bytes = λ l. absurd (let n = output-size v in omega arith) }
+
+  -- the report, if it fits, then the field before it
+  pub placed-there : (k : ℕ) {zs e₂ : List ℕ} → Summed s (midOf (o + summarySize) k e) zs r → k ≡ length e - (o + summarySize) → e₂ ≡ patch (putMid (o + summarySize) k e zs) o (summaryBytes r) → Placed s o e e₂ r
+  unfolding imageOutput
+  placed-there k {zs} {e₂} w m p = record { summarized = w .summarized; bytes = λ l. there l }
+    where
+      v : Summarized s r
+      v = w .summarized
+
+      b : length (summaryBytes r) ≡ summarySize
+      b = summaryBytes-length r
+
+      there : o + length (imageOutput s) ≤ length e → e₂ ≡ patch e o (imageOutput s)
+      there l =
+          let n = output-size v in
+          let t = report-size v in
+          let z : putMid (o + summarySize) k e zs ≡ patch e (o + summarySize) (imageReport s) =
+          part-patched e (imageReport s) (o + summarySize) k (w .bytes (part-room e (o + summarySize) k (length (imageReport s)) m (omega arith))) m in
+          p ∙ rw z (rw b at (patch-reversed e (summaryBytes r) (imageReport s) o (omega (arith, b)))) ∙ ap (λ x. patch e o (summaryBytes x ++ imageReport s)) (v .is)

@@ -4,7 +4,7 @@ use mathlib.Core.Path.{_≡_}
 use mathlib.Core.List.{List}
 use mathlib.Core.Option.{none}
 use lib.ListN.{length}
-use Rattle.base.specs.Buffers.{startsWith}
+use Rattle.base.specs.Buffers.{patch, startsWith}
 use Rattle.oce_model.specs.Refusals.{refusal}
 use Rattle.oce_diag.specs.Diagnostics.{errors, warnings}
 use Rattle.oce_diag.specs.Encoding.{diagnosticSize, reportBytes}
@@ -12,7 +12,7 @@ use Rattle.oce_diag.specs.Putting.{total}
 use Rattle.oce_diag.specs.declared.Counted.{Counted}
 use Rattle.outcome.specs.Answer.{reportOf, reportSize}
 use Rattle.rules.specs.Ran.{mostDiagnostics}
-use Rattle.batch.specs.Output.{summarySize, summaryOf, imageReport}
+use Rattle.batch.specs.Output.{summarySize, summaryOf, imageReport, imageOutput}
 use Rattle.batch.specs.declared.Summary.{Summary}
 
 -- a run over an accepted image: its diagnostics counted, and a report b that has become b′, all of them if they fit
@@ -40,3 +40,8 @@ pub record Summarized (s : List ℕ) (r : Summary) : Type 0 where
 pub record Summed (s b b′ : List ℕ) (r : Summary) : Type 0 where
   pub summarized : Summarized s r
   pub bytes : length (imageReport s) ≤ length b → b′ ≡ startsWith (imageReport s) b
+
+-- the same, with a buffer e that has become e′: the image's part of the output stands there from index o on, if it fits
+pub record Placed (s : List ℕ) (o : ℕ) (e e′ : List ℕ) (r : Summary) : Type 0 where
+  pub summarized : Summarized s r
+  pub bytes : o + length (imageOutput s) ≤ length e → e′ ≡ patch e o (imageOutput s)

@@ -19,12 +19,12 @@ use rules::run;
 ghost use mathlib.Core.Path.{_≡_};
 ghost use Prim.Native.Nat.{_+_, _≤_};
 ghost use lib.ListN.{length};
-ghost use Rattle.base.specs.Buffers.{startsWith};
+ghost use Rattle.base.specs.Buffers.{patch, startsWith};
 ghost use Rattle.oce_model.specs.Format.{textTag, blockTag};
 ghost use Rattle.image_accept.specs.Layout.{Laid, Tabled};
 ghost use Rattle.oce_validate.specs.Answered.{fewSlots};
-ghost use Rattle.batch.specs.Output.{summaryBytes, imageOutput};
-ghost use Rattle.batch_image.specs.Summarized.{Counting, Summed, Summarized, sizeOf, mostBytes};
+ghost use Rattle.batch.specs.Output.{summarySize, summaryBytes, imageOutput};
+ghost use Rattle.batch_image.specs.Summarized.{Counting, Summed, Summarized, sizeOf, mostBytes, Placed};
 
 // ---- the check
 
@@ -102,7 +102,7 @@ fn summarize_into(image: &[u8], report: &mut [u8]) -> Summary
 }
 
 // Sums up the check of any byte string, and writes no report.
-pub fn summarize(image: &[u8]) -> Summary
+fn summarize(image: &[u8]) -> Summary
     ensures { λ r. ⌜ Summarized (now (image .entry)) r ⌝ }
 {
     let mut nothing = [0u8; 0];
@@ -155,16 +155,40 @@ fn encode(r: Summary) -> [u8; SUMMARY_SIZE]
     ]
 }
 
+// Writes the field of a summary from index o on.
+fn put_field(output: &mut [u8], o: usize, r: Summary)
+    requires { ⌜ o + summarySize ≤ length (now output) ⌝ }
+    ensures { λ _. ⌜ now (output .exit) ≡ patch (now (output .entry)) o (summaryBytes r) ⌝ }
+{
+    let field = encode(r);
+    copy_at(output, o, &field);
+}
+
 // An image's part of the output: its field, and its report, for which the rules run once more, where there is one.
 pub fn write_image(image: &[u8], r: Summary, output: &mut [u8])
     requires { ⌜ Summarized (now image) r × (length (imageOutput (now image)) ≤ length (now output)) ⌝ }
     ensures { λ _. ⌜ now (output .exit) ≡ startsWith (imageOutput (now (image .entry))) (now (output .entry)) ⌝ }
 {
-    let field = encode(r);
-    copy_at(output, 0, &field);
+    put_field(output, 0, r);
     if total_of(r) == 0 {
         return;
     }
     let behind = SUMMARY_SIZE;
     summarize_into(image, &mut output[behind..]);
+}
+
+// Sums up the check of any byte string; its part of the output then stands in early from index o on, if it fits there.
+pub fn summarize_at(image: &[u8], early: &mut [u8], o: usize) -> Summary
+    ensures { λ r. ⌜ Placed (now (image .entry)) o (now (early .entry)) (now (early .exit)) r ⌝ }
+{
+    if early.len() < SUMMARY_SIZE {
+        return summarize(image);
+    }
+    if early.len() - SUMMARY_SIZE < o {
+        return summarize(image);
+    }
+    let behind = o + SUMMARY_SIZE;
+    let r = summarize_into(image, &mut early[behind..]);
+    put_field(early, o, r);
+    r
 }

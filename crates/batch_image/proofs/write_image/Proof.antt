@@ -8,8 +8,6 @@ pub write-image-spec : {M : Type 1} → statement M
 write-image-spec =
     tie.close
     (tie.spec
-    (λ c κs. search needs)
-    (λ c. search needs)
     (λ c κs. search (field-room, needs))
     (λ c κs. search needs)
     (λ c. search needs)
