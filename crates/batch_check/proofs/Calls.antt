@@ -1,10 +1,12 @@
 -- Each way that a call can end gives what the definitions say.
-use Prim.Native.Nat.{ℕ, _≤_, _<_}
-use mathlib.Core.Path.{_≡_, ap, _∙_}
+use Prim.Native.Nat.{ℕ, _-_, _≤_, _<_}
+use native.Mathlib.Omega.{arith}
+use mathlib.Core.Path.{_≡_, sym, ap, _∙_}
 use mathlib.Core.List.{List}
-use lib.ListN.{length}
+use lib.ListN.{length, take}
 use borrow.Author.Tests.{lt-ltb, le-ltb}
-use Rattle.base.specs.Buffers.{startsWith}
+use Rattle.base.specs.Buffers.{patch, startsWith}
+use Rattle.base.proofs.Buffers.{startsWith-patch}
 use Rattle.image_framing.specs.declared.Found.{Found}
 use Rattle.image_framing.specs.declared.Found.the-variants.{At}
 use Rattle.image_framing.specs.Walk.{foundOf}
@@ -22,7 +24,14 @@ pub called-fault : (s o : List ℕ) {r : Found} {at : ℕ} → r ≡ foundOf (fi
 unfolding batchAnswer outputAfter
 called-fault s o e h = let q = found-fault s e h in record { answer = rw q; output = rw q }
 
-module _ {s k : List ℕ} {needed : ℕ} (c : Clean s) (v : Measured s k needed) where
+-- the output: from the buffer that begins with it, or by a second pass
+module _ {s k e : List ℕ} {needed : ℕ} (v : Measured s k e needed) where
+  pub output-copied : (o : List ℕ) {o′ : List ℕ} → needed ≤ length e → o′ ≡ patch o 0 (take (needed - 0) e) → o′ ≡ startsWith (batchOutput s) o
+  output-copied o h p =
+      let z : needed - 0 ≡ needed = omega arith in
+      p ∙ ap (patch o 0) (rw z (v .early h)) ∙ sym (startsWith-patch (batchOutput s) o)
+
+module _ {s k e : List ℕ} {needed : ℕ} (c : Clean s) (v : Measured s k e needed) where
   -- refusal 12
   pub called-short : (o : List ℕ) → length o < needed → Called s o (Refused 12 needed) o
   unfolding batchAnswer outputAfter answerWith
@@ -30,9 +39,6 @@ module _ {s k : List ℕ} {needed : ℕ} (c : Clean s) (v : Measured s k needed)
       let l : length o < bytesNeeded s = rw (v .size) at h in
       let t = lt-ltb (length o) (bytesNeeded s) l in
       record { answer = rw (clean-none c, t, v .size); output = rw (clean-none c, t) }
-
-  pub enough : {m : ℕ} → needed ≤ m → bytesNeeded s ≤ m
-  enough h = rw (v .size) at h
 
   pub called-written : (o : List ℕ) {o′ : List ℕ} → o′ ≡ startsWith (batchOutput s) o → needed ≤ length o → Called s o (Written needed) o′
   unfolding batchAnswer outputAfter answerWith

@@ -1,5 +1,5 @@
 -- Laws of the column of summaries.
-use Prim.Native.Nat.{ℕ, _+_, _*_, _<_}
+use Prim.Native.Nat.{ℕ, _+_, _*_, _<_, _≤_}
 use native.Mathlib.Omega.{arith}
 use mathlib.Core.Path.{_≡_, sym, ap, _∙_}
 use mathlib.Core.Logic.{_≢_}
@@ -8,9 +8,9 @@ use lib.ListN.{length, getD, set, length-set}
 use lib.Seq.{getD-set-same, getD-set-other}
 use Rattle.batch.specs.Fields.{mostImages}
 use Rattle.batch.specs.declared.Summary.{Summary}
-use Rattle.batch_image.specs.Summarized.{Summarized, sizeOf}
+use Rattle.batch_image.specs.Summarized.{Summarized, Placed, sizeOf, mostBytes}
 use Rattle.batch_image.proofs.Laws.{output-size}
-use Rattle.batch_check.specs.Kept.{width, keptLength, summaryAt, withSummary, Noted}
+use Rattle.batch_check.specs.Kept.{width, keptLength, summaryAt, withSummary, Noted, Begun}
 
 module _ (k : List ℕ) (i : ℕ) (r : Summary) where
   with-length : length (withSummary k i r) ≡ length k
@@ -51,9 +51,9 @@ pub kept-length : (k : List ℕ) (i : ℕ) (r : Summary) {k′ : List ℕ} → k
 kept-length k i r e = ap length e ∙ with-length k i r
 
 -- the image in a field, summed up and kept
-pub noted : {x t k : List ℕ} {i : ℕ} {r : Summary} {k′ : List ℕ} {n : ℕ} → Summarized x r → x ≡ t → k′ ≡ withSummary k i r → n ≡ sizeOf r → i < mostImages → length k ≡ keptLength → Noted t i k k′ n
-noted {x} {t} {k} {i} {r} {k′} {n} u g e z h l =
-    let v : Summarized t r = rw g at u in
+pub noted : {x t e e′ k : List ℕ} {i o : ℕ} {r : Summary} {k′ : List ℕ} {n : ℕ} → Placed x o e e′ r → x ≡ t → k′ ≡ withSummary k i r → n ≡ sizeOf r → i < mostImages → length k ≡ keptLength → Noted t i k k′ n
+noted {x} {t} {k = k} {i = i} {r = r} {k′} {n} u g e z h l =
+    let v : Summarized t r = rw g at (u .summarized) in
     let same : summaryAt k′ i ≡ r = ap (λ x. summaryAt x i) e ∙ summary-same k i r h l in
     record {
       entry = rw same v;
@@ -62,3 +62,9 @@ noted {x} {t} {k} {i} {r} {k′} {n} u g e z h l =
       low = omega (arith, v .few);
       long = kept-length k i r e ∙ l;
     }
+
+pub begun : {x t e e′ : List ℕ} {o : ℕ} {r : Summary} → Placed x o e e′ r → x ≡ t → Begun t o e e′
+begun {x} {t} {e} {e′} {o} u g = record { bytes = rw g at (u .bytes) }
+
+pub placed-few : {x e e′ : List ℕ} {o : ℕ} {r : Summary} → Placed x o e e′ r → sizeOf r ≤ mostBytes
+placed-few u = u .summarized .few

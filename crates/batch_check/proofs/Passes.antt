@@ -4,8 +4,8 @@ use native.Mathlib.Decide.{ℕ-discrete}
 use native.Mathlib.Omega.{arith}
 use mathlib.Core.Path.{_≡_, refl, sym, ap, _∙_}
 use mathlib.Core.List.{List, [], _∷_, _++_, map, append-assoc, append-nil}
-use lib.ListN.{length, getD, drop, length-append, length-drop, drop-of-length-le}
-use lib.Seq.{length-take-le, take-all, drop-drop}
+use lib.ListN.{length, getD, take, drop, length-append}
+use lib.Seq.{length-take-le, take-at}
 use borrow.Rule.Slice.PartMut.{putMid, midOf}
 use Rattle.base.specs.Buffers.{patch, startsWith}
 use Rattle.base.proofs.Buffers.{patch-none, patch-length, patch-patch, startsWith-patch}
@@ -18,8 +18,8 @@ use Rattle.batch.specs.declared.Summary.{Summary}
 use Rattle.batch_framing.specs.Clean.{Clean, Passing}
 use Rattle.batch_framing.proofs.Passes.{passing-start, passing-step, passing-few, passing-more, passing-image, passing-end, passing-all}
 use Rattle.batch_image.specs.Summarized.{Summarized, sizeOf, mostBytes}
-use Rattle.batch_image.proofs.Laws.{output-size}
-use Rattle.batch_check.specs.Kept.{keptLength, summaryAt, Noted, KeptTo, Kept}
+use Rattle.batch_image.proofs.Laws.{output-size, part-patched, part-room}
+use Rattle.batch_check.specs.Kept.{keptLength, summaryAt, Noted, Begun, KeptTo, Kept}
 use Rattle.batch_check.specs.Called.{Measured, mostNeeded}
 
 -- ---- the output of the images in some fields
@@ -44,28 +44,39 @@ output-longer s f {l} e = ap (λ r. length (outputIn s r)) e ∙ ap length (outp
 
 -- ---- measuring
 
--- the images before f are kept, and need so many bytes
-pub record Measuring (s : List ℕ) (f : Field) (needed : ℕ) (k : List ℕ) : Type 0 where
+-- the images before f are kept, their parts of the output are done, and the buffer e begins with those, if they fit
+pub record Measuring (s : List ℕ) (f : Field) (needed : ℕ) (k : List ℕ) (n : ℕ) (e : List ℕ) : Type 0 where
   pub i : ℕ
   pub rest : List Field
+  pub done : List ℕ
   pub pass : Passing s f i rest
   pub kept : KeptTo s i k
-  pub size : needed + length (outputIn s rest) ≡ bytesNeeded s
+  pub whole : done ++ outputIn s rest ≡ batchOutput s
+  pub size : needed ≡ length done
   pub low : needed ≤ mostBytes * i
+  pub long : length e ≡ n
+  pub early : needed ≤ length e → take needed e ≡ done
 
-pub measuring-start : {s : List ℕ} {f : Field} (k : List ℕ) → Clean s → f ≡ start s → length k ≡ keptLength → Measuring s f 0 k
-measuring-start {s} k v e l =
-    let z = ap length (output-all s) in
-    record {
-      i = 0;
-      rest = fields s;
-      pass = passing-start v e;
-      kept = record { long = l; entries = λ j h. absurd (omega arith) };
-      size = omega arith;
-      low = omega arith;
-    }
+pub measuring-start : {s : List ℕ} {f : Field} (k e : List ℕ) → Clean s → f ≡ start s → length k ≡ keptLength → Measuring s f 0 k (length e) e
+measuring-start {s} k e v p l = record {
+  i = 0;
+  rest = fields s;
+  done = [];
+  pass = passing-start v p;
+  kept = record { long = l; entries = λ j h. absurd (omega arith) };
+  whole = sym (output-all s);
+  size = refl;
+  low = omega arith;
+  long = refl;
+  early = λ h. refl;
+}
 
-module _ {s : List ℕ} {f : Field} {needed : ℕ} {k : List ℕ} (v : Measuring s f needed k) where
+-- bytes put behind the first of a buffer
+front-longer : (e bs : List ℕ) (o : ℕ) → o + length bs ≤ length e → take (o + length bs) (patch e o bs) ≡ take o e ++ bs
+unfolding patch
+front-longer e bs o h = take-at (take o e ++ bs) (drop (o + length bs) e) (o + length bs) (rw (length-append, length-take-le o e (omega arith)))
+
+module _ {s : List ℕ} {f : Field} {needed : ℕ} {k : List ℕ} {m : ℕ} {e : List ℕ} (v : Measuring s f needed k m e) where
   module _ {k′ : List ℕ} {n : ℕ} (w : Noted (imageIn s f) (f .ord) k k′ n) where
     pub measuring-sum : f .at < length s → needed + n ≤ mostNeeded
     measuring-sum h = let few = passing-few (v .pass) h in let o = v .pass .ord h in let low = v .low in let more = w .low in omega arith
@@ -80,45 +91,44 @@ module _ {s : List ℕ} {f : Field} {needed : ℕ} {k : List ℕ} (v : Measuring
         arm (yes p) = rw (p, passing-image (v .pass) h, ← o) (w .entry)
         arm (no p) = let l : j < v .i = omega arith in rw (w .others j (λ e. p (e ∙ o))) (v .kept .entries j l)
 
-    pub measuring-turn : {g : Field} → f .at < length s → g ≡ after s f → Measuring s g (needed + n) k′
-    measuring-turn h e =
-        let p = passing-step (v .pass) h e in
-        let longer = output-longer s f (p .is) in
-        let size = v .size in
-        let grown = w .size in
+    pub measuring-turn : {e′ : List ℕ} {g : Field} → Begun (imageIn s f) needed e e′ → length e′ ≡ length e → f .at < length s → g ≡ after s f → Measuring s g (needed + n) k′ m e′
+    measuring-turn {e′} b same h q =
+        let p = passing-step (v .pass) h q in
+        let part = imageOutput (imageIn s f) in
         let low = v .low in
         let more = w .low in
+        let size = v .size in
         record {
           i = v .i + 1;
           rest = p .later;
+          done = v .done ++ part;
           pass = p .pass;
           kept = record { long = w .long; entries = entries h };
-          size = omega arith;
+          whole = append-assoc (v .done) part (outputIn s (p .later)) ∙ ap (λ x. v .done ++ x) (sym (output-next s f (p .later)) ∙ ap (outputIn s) (sym (p .is))) ∙ v .whole;
+          size = ap (λ x. x + n) size ∙ ap (λ x. length (v .done) + x) (w .size) ∙ sym (length-append (v .done) part);
           low = omega arith;
+          long = same ∙ v .long;
+          early = λ l. begun l;
         }
+      where
+        begun : needed + n ≤ length e′ → take (needed + n) e′ ≡ v .done ++ imageOutput (imageIn s f)
+        begun l =
+            let z : n ≡ length (imageOutput (imageIn s f)) = w .size in
+            let r : needed + length (imageOutput (imageIn s f)) ≤ length e = omega (arith, same) in
+            let d : take needed e ≡ v .done = v .early (omega (arith, same)) in
+            rw (z, b .bytes r) (front-longer e (imageOutput (imageIn s f)) needed r ∙ rw d)
 
-  pub measuring-end : length s ≤ f .at → Measured s k needed
+  pub measuring-long : length e ≡ m
+  measuring-long = v .long
+
+  pub measuring-end : length s ≤ f .at → Measured s k e needed
   measuring-end h =
-      let z : length (outputIn s (v .rest)) ≡ 0 = ap (λ r. length (outputIn s r)) (passing-end (v .pass) h) ∙ ap length (output-none s) in
-      let size = v .size in
+      let all : v .done ≡ batchOutput s = sym (append-nil (v .done)) ∙ ap (λ x. v .done ++ x) (sym (output-none s) ∙ ap (outputIn s) (sym (passing-end (v .pass) h))) ∙ v .whole in
       let few = v .pass .few in
       let low = v .low in
-      record { kept = rw (passing-all (v .pass) h) at (v .kept); size = omega arith; low = omega arith }
+      record { kept = rw (passing-all (v .pass) h) at (v .kept); size = v .size ∙ ap length all; low = omega arith; early = λ l. v .early l ∙ all }
 
 -- ---- one image written
-
--- bytes written into the part of a buffer from an index on
-part-patched : (out bs : List ℕ) (o k : ℕ) {zs : List ℕ} → zs ≡ startsWith bs (midOf o k out) → k ≡ length out - o → putMid o k out zs ≡ patch out o bs
-unfolding startsWith patch
-part-patched out bs o k e l =
-    let rest : length (drop o out) ≤ k = simp length-drop (omega arith) in
-    simp (e, take-all k (drop o out) rest, drop-of-length-le (drop o out) rest, append-nil, drop-drop, append-assoc)
-
-part-room : (out : List ℕ) (o k b : ℕ) → k ≡ length out - o → o + b ≤ length out → b ≤ length (midOf o k out)
-part-room out o k b l h =
-    let d : length (drop o out) ≡ length out - o = length-drop o out in
-    let f : length (midOf o k out) ≡ k = length-take-le k (drop o out) (omega arith) in
-    omega arith
 
 -- by the summary that was kept
 module _ {t : List ℕ} {x r : Summary} (v : Summarized t x) (e : r ≡ x) where

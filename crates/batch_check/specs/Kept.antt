@@ -4,6 +4,7 @@ use mathlib.Core.Path.{_≡_}
 use mathlib.Core.Logic.{_≢_}
 use mathlib.Core.List.{List, []}
 use lib.ListN.{length, getD, set}
+use Rattle.base.specs.Buffers.{patch}
 use Rattle.batch.specs.Fields.{mostImages, images}
 use Rattle.batch.specs.Output.{imageOutput}
 use Rattle.batch.specs.declared.Summary.{Summary}
@@ -31,6 +32,10 @@ pub record Noted (t : List ℕ) (i : ℕ) (k k′ : List ℕ) (n : ℕ) : Type 0
   pub size : n ≡ length (imageOutput t)
   pub low : n ≤ mostBytes
   pub long : length k′ ≡ keptLength
+
+-- a buffer e has become e′: the part of an image with the bytes t stands there from index o on, if it fits
+pub record Begun (t : List ℕ) (o : ℕ) (e e′ : List ℕ) : Type 0 where
+  pub bytes : o + length (imageOutput t) ≤ length e → e′ ≡ patch e o (imageOutput t)
 
 -- the first n images are kept
 pub record KeptTo (s : List ℕ) (n : ℕ) (k : List ℕ) : Type 0 where

@@ -1,6 +1,6 @@
 -- `batch_check::check_images` meets its contract: refusal 12, or the whole output.
 use borrow.Author.Needs.{needs}
-use Rattle.batch_check.proofs.Calls.{called-short, enough, called-written}
+use Rattle.batch_check.proofs.Calls.{called-short, called-written}
 use Rattle.batch_check.proofs.check_images.Statement.{statement}
 use Rattle.batch_check.proofs.check_images.Tie as tie
 
@@ -9,9 +9,11 @@ check-images-spec =
     tie.close
     (tie.spec
     (λ c. search needs)
+    (λ c. search needs)
     (λ c κs. search needs)
     (λ c. search (called-short, needs))
     (λ c. search needs)
-    (λ c κs. search (enough, needs))
+    (λ c. search needs)
+    (λ c κs. search needs)
     (λ c. search needs)
     (λ c. search (called-written, needs)))

@@ -4,15 +4,15 @@ use lib.ListN.{length}
 use borrow.Author.Needs.{needs}
 use Rattle.image_framing.proofs.Walks.{walk-less}
 use Rattle.batch_framing.proofs.Passes.{passing-fits, passing-few}
-use Rattle.batch_check.proofs.Passes.{Measuring, measuring-start, measuring-sum, measuring-turn, measuring-end}
+use Rattle.batch_check.proofs.Passes.{Measuring, measuring-start, measuring-sum, measuring-turn, measuring-long, measuring-end}
 use Rattle.batch_check.proofs.measure.Statement.{statement}
 use Rattle.batch_check.proofs.measure.Tie as tie
 
 abbrev Inv-loop : tie.InvT-loop
-Inv-loop s kept₀ f₀ needed₀ kept f needed = Measuring s f needed kept
+Inv-loop s kept₀ early₀ f₀ needed₀ kept early f needed = Measuring s f needed kept (length early₀) early
 
 abbrev μ-loop : tie.MeasureT-loop
-μ-loop s kept₀ f₀ needed₀ kept f needed = length s - f .at
+μ-loop s kept₀ early₀ f₀ needed₀ kept early f needed = length s - f .at
 
 pub measure-spec : {M : Type 1} → statement M
 measure-spec =
@@ -28,4 +28,5 @@ measure-spec =
     (λ c. search (walk-less, needs))
     (λ c. search (measuring-turn, needs))
     (λ c. search needs)
+    (λ c. search (measuring-long, needs))
     (λ c. search (measuring-end, needs)))

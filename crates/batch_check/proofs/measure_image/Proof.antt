@@ -1,6 +1,6 @@
 -- `batch_check::measure_image` meets its contract: summed up and kept.
 use borrow.Author.Needs.{needs}
-use Rattle.batch_check.proofs.Entries.{noted, kept-length}
+use Rattle.batch_check.proofs.Entries.{noted, begun}
 use Rattle.batch_check.proofs.measure_image.Statement.{statement}
 use Rattle.batch_check.proofs.measure_image.Tie as tie
 
@@ -12,5 +12,6 @@ measure-image-spec =
     (λ c κs. search needs)
     (λ c κs. search needs)
     (λ c κs. search needs)
-    (λ c. search (kept-length, needs))
-    (λ c. search (noted, needs)))
+    (λ c. search needs)
+    (λ c. search needs)
+    (λ c. (search (noted, needs), search (begun, needs))))
