@@ -229,10 +229,8 @@ impl Batches {
 
     /// A batch without a fault, with outputs of every kind; then with faults.
     fn row(&mut self, r: &mut Random, row: &Row) -> Result<(), String> {
-        self.sums.batches += 1;
-        self.sums.batch_images += row.images.len();
-        self.sums.batch_bytes += row.bytes.len();
-        self.sums.output_bytes += row.output.len();
+        self.sums
+            .batch(row.images.len(), row.bytes.len(), row.output.len());
         let needed = row.output.len();
         let spare = r.between(1, SPARE);
         self.written(r, row, name::SPARE, needed + spare)?;
@@ -313,10 +311,7 @@ impl Batches {
         let more = Row::of(images.clone());
         let full = Row::of(images[..MOST_IMAGES].to_vec());
         let needed = full.output.len();
-        self.sums.batches += 1;
-        self.sums.batch_images += MOST_IMAGES;
-        self.sums.batch_bytes += full.bytes.len();
-        self.sums.output_bytes += needed;
+        self.sums.batch(MOST_IMAGES, full.bytes.len(), needed);
         self.written(&mut r, &full, name::FULL, needed)?;
         self.short(&mut r, &full, name::FULL_SHORT, needed - 1)?;
         let at = full.bytes.len();

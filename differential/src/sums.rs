@@ -27,6 +27,8 @@ pub struct Sums {
     pub batch_images: usize,
     pub batch_bytes: usize,
     pub output_bytes: usize,
+    /// Of these, batches whose output is too long to be made in one pass over their images.
+    pub long_outputs: usize,
     /// Images that are too long for a field.
     pub beyond_fields: usize,
     /// Calls for batches, by what was lent.
@@ -35,7 +37,19 @@ pub struct Sums {
     pub details: BTreeMap<(u8, u8), (usize, usize)>,
 }
 
+/// The library makes a longer output in two passes: 16 bytes for each of 4,096 images.
+const ONE_PASS: usize = 65_536;
+
 impl Sums {
+    /// A batch without a field at fault.
+    pub fn batch(&mut self, images: usize, bytes: usize, output: usize) {
+        self.batches += 1;
+        self.batch_images += images;
+        self.batch_bytes += bytes;
+        self.output_bytes += output;
+        self.long_outputs += usize::from(output > ONE_PASS);
+    }
+
     pub fn add(&mut self, other: Self) {
         self.images += other.images;
         self.bytes += other.bytes;
@@ -50,6 +64,7 @@ impl Sums {
         self.batch_images += other.batch_images;
         self.batch_bytes += other.batch_bytes;
         self.output_bytes += other.output_bytes;
+        self.long_outputs += other.long_outputs;
         self.beyond_fields += other.beyond_fields;
         for (key, count) in other.families {
             *self.families.entry(key).or_default() += count;
@@ -94,12 +109,13 @@ impl Sums {
         }
         let _ = write!(
             out,
-            "\nbatches {}, their images {}, bytes {}, bytes of outputs {}; images in no batch, too long for a \
-             field {}\n\n| batch and output lent | calls |\n|---|---|\n",
+            "\nbatches {}, their images {}, bytes {}, bytes of outputs {}, of these above {ONE_PASS} bytes {}; images in no \
+             batch, too long for a field {}\n\n| batch and output lent | calls |\n|---|---|\n",
             self.batches,
             self.batch_images,
             self.batch_bytes,
             self.output_bytes,
+            self.long_outputs,
             self.beyond_fields
         );
         for (name, calls) in &self.batch_calls {
