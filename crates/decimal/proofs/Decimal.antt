@@ -8,7 +8,7 @@ use mathlib.Core.List.{List, [], _∷_, _++_}
 use lib.Dec.{ltb}
 use lib.ListN.{length, length-append}
 use borrow.Author.Tests.{lt-ltb, le-ltb, ltb-true}
-use Rattle.decimal.specs.Decimal.{ten, digitZero, digit, digitsIn, decimal, valueOf, mostDigits, mostByteDigits}
+use Rattle.decimal.specs.Decimal.{ten, digitZero, digit, digitsIn, decimal, wideDecimal, valueOf, mostDigits, mostWideDigits, mostByteDigits}
 
 -- n / 10 below the next lower power
 less : (k n : ℕ) → n < ten ^ suc (suc k) → n / ten < ten ^ suc k
@@ -24,10 +24,15 @@ more-places zero q n h l = let m : n < ten = small n h in rw (lt-ltb n ten m)
 more-places (suc p) zero n h l = let m : n < ten = small n l in rw (lt-ltb n ten m)
 more-places (suc p) (suc q) n h l = rw (more-places p q (n / ten) (less p n h) (less q n l))
 
+-- a number of 32 bits has the same digits among those of 64
+pub decimal-wide : (n : ℕ) → n < 4294967296 → wideDecimal n ≡ decimal n
+unfolding decimal wideDecimal
+decimal-wide n h = more-places 19 9 n (omega arith) (omega arith)
+
 -- below ten there is one digit
-pub decimal-one : (n : ℕ) → n < ten → decimal n ≡ digit n ∷ []
-unfolding decimal digitsIn
-decimal-one n h =
+pub wide-one : (n : ℕ) → n < ten → wideDecimal n ≡ digit n ∷ []
+unfolding wideDecimal digitsIn
+wide-one n h =
     let m : n % ten ≡ n = omega arith in
     rw (lt-ltb n ten h, m)
 
@@ -36,9 +41,9 @@ unfolding digitsIn
 step p n h = rw (le-ltb n ten h)
 
 -- from ten on the last digit follows those of n / 10
-pub decimal-more : (n : ℕ) → n < 4294967296 → ten ≤ n → decimal n ≡ decimal (n / ten) ++ (digit (n % ten) ∷ [])
-unfolding decimal
-decimal-more n f h = rw (step 9 n h, more-places 8 9 (n / ten) (omega arith) (omega arith))
+pub wide-more : (n : ℕ) → n < 18446744073709551616 → ten ≤ n → wideDecimal n ≡ wideDecimal (n / ten) ++ (digit (n % ten) ∷ [])
+unfolding wideDecimal
+wide-more n f h = rw (step 19 n h, more-places 18 19 (n / ten) (omega arith) (omega arith))
 
 -- as many places, as many digits
 digits-most : (p n : ℕ) → length (digitsIn p n) ≤ p
@@ -53,6 +58,10 @@ digits-most (suc p) n = arm (ltb n ten) (digits-most p (n / ten))
 pub decimal-few : (n : ℕ) → length (decimal n) ≤ mostDigits
 unfolding decimal
 decimal-few n = digits-most mostDigits n
+
+pub wide-few : (n : ℕ) → length (wideDecimal n) ≤ mostWideDigits
+unfolding wideDecimal
+wide-few n = digits-most mostWideDigits n
 
 pub decimal-byte : (n : ℕ) → n < 256 → length (decimal n) ≤ mostByteDigits
 unfolding decimal
@@ -81,3 +90,7 @@ value-digits (suc p) n h = arm (ltb n ten) refl (value-digits p (n / ten) (less 
 pub decimal-value : (n : ℕ) → n < 4294967296 → valueOf 0 (decimal n) ≡ n
 unfolding decimal
 decimal-value n h = value-digits 9 n (omega arith)
+
+pub wide-value : (n : ℕ) → n < 18446744073709551616 → valueOf 0 (wideDecimal n) ≡ n
+unfolding wideDecimal
+wide-value n h = value-digits 19 n (omega arith)

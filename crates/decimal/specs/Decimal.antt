@@ -21,16 +21,23 @@ unfoldable pub digitsIn : ℕ → ℕ → List ℕ
 digitsIn zero n = []
 digitsIn (suc p) n = cond (ltb n ten) [] (digitsIn p (n / ten)) ++ (digit (n % ten) ∷ [])
 
--- a number of 32 bits has at most ten digits, a byte three
+-- a number of 32 bits has at most ten digits, one of 64 bits twenty, a byte three
 abbrev pub mostDigits : ℕ
 mostDigits = 10
+
+abbrev pub mostWideDigits : ℕ
+mostWideDigits = 20
 
 abbrev pub mostByteDigits : ℕ
 mostByteDigits = 3
 
--- a number of 32 bits: no other is printed
+-- a number of 32 bits
 unfoldable pub decimal : ℕ → List ℕ
 decimal n = digitsIn mostDigits n
+
+-- a number of 64 bits: below 2 to the 32 the same
+unfoldable pub wideDecimal : ℕ → List ℕ
+wideDecimal n = digitsIn mostWideDigits n
 
 -- the number that digits stand for, behind those that stand for a
 unfoldable pub valueOf : ℕ → List ℕ → ℕ

@@ -1,18 +1,30 @@
 // Checks a model image and prints its report: of standard input, or of the file that an argument names.
-// A second argument names a new file for the filled image, or is - for standard output. After --fields the fields of an image are listed.
+// A second argument names a new file for the filled image, or is - for standard output. After --fields the fields of an image are listed, after --batch a batch of
+// images is checked.
 use base::part_of;
 use image_texts::same_bytes;
 use libc::STDERR_FILENO;
 use libc::STDIN_FILENO;
 use libc::STDOUT_FILENO;
 use oce_model::LONGEST_IMAGE;
+use print_batch::print_batch;
 use print_check::Input;
 use print_check::print_check;
 use print_check::print_fields;
+use print_check::read_from;
 use print_check::read_image;
 
 // One byte more than the longest image, to notice one that is longer.
 const READ: usize = LONGEST_IMAGE + 1;
+
+// A batch that is read has no more bytes: sixty-four images of nearly full size.
+const LONGEST_BATCH: usize = 4194304;
+
+// One more, to notice a batch that is longer.
+const READ_BATCH: usize = LONGEST_BATCH + 1;
+
+// The bytes that are lent for a batch's output.
+const BATCH_OUTPUT: usize = 2097152;
 
 fn print_help() {
     io::write_all(
@@ -33,7 +45,15 @@ fn print_help() {
     );
     io::write_all(
         STDOUT_FILENO,
-        b"  oce_check --fields IMAGE   lists the fields of the image in a file\n\n",
+        b"  oce_check --fields IMAGE   lists the fields of the image in a file\n",
+    );
+    io::write_all(
+        STDOUT_FILENO,
+        b"  oce_check --batch          the images of a batch on standard input\n",
+    );
+    io::write_all(
+        STDOUT_FILENO,
+        b"  oce_check --batch BATCH    the images of a batch in a file\n\n",
     );
     io::write_all(
         STDOUT_FILENO,
@@ -46,6 +66,10 @@ fn print_help() {
     io::write_all(
         STDOUT_FILENO,
         b"A line of --fields has a field's offset, tag and length, up to the first that runs past the end.\n",
+    );
+    io::write_all(
+        STDOUT_FILENO,
+        b"After --batch a line 'image I', I from 0, stands before each image's lines; a refused batch gives one line.\n",
     );
 }
 
@@ -144,6 +168,60 @@ fn list_named(count: usize) {
     list_file(&name[..n]);
 }
 
+// Prints a batch, with an output of its own.
+fn print_with_output(batch: &[u8]) -> bool {
+    let mut output = [0u8; BATCH_OUTPUT];
+    print_batch(STDOUT_FILENO, batch, &mut output)
+}
+
+// Checks a batch that was read.
+fn check_read(batch: &[u8]) {
+    if LONGEST_BATCH < batch.len() {
+        complain(b"the batch is longer than 4194304 bytes");
+        return;
+    }
+    if !print_with_output(batch) {
+        complain(b"not all of the report could be written");
+    }
+}
+
+// Reads a batch of an open file to a buffer and checks it; name is what complaints call the file.
+fn check_batch_in(fd: i32, name: &[u8], buffer: &mut [u8]) {
+    let input = read_from(fd, buffer);
+    match input {
+        Input::Bytes(n) => check_read(part_of(buffer, 0, n)),
+        Input::Unreadable => os::fail(name),
+    }
+}
+
+// The same with a buffer of its own. It is called in two places, so that its frame, which is large, stays
+// out of main's.
+fn check_batch_from(fd: i32, name: &[u8]) {
+    let mut buffer = [0u8; READ_BATCH];
+    check_batch_in(fd, name, &mut buffer);
+}
+
+// Checks a batch of standard input, or of the file that the second argument names.
+fn check_images(count: usize) {
+    if count <= 2 {
+        check_batch_from(STDIN_FILENO, b"standard input");
+        return;
+    }
+    let mut name = io::buffer();
+    let n = os::arg(2, &mut name);
+    if os::errno() != 0 {
+        complain(b"the second argument is too long");
+        return;
+    }
+    let fd = os::open_read(&name[..n]);
+    if fd < 0 {
+        os::fail(&name[..n]);
+        return;
+    }
+    check_batch_from(fd, &name[..n]);
+    libc::close(fd);
+}
+
 fn main() {
     let count = os::arg_count();
     if count <= 1 {
@@ -166,6 +244,10 @@ fn main() {
     }
     if same_bytes(&name[..n], b"--fields") {
         list_named(count);
+        return;
+    }
+    if same_bytes(&name[..n], b"--batch") {
+        check_images(count);
         return;
     }
     check_file(&name[..n]);

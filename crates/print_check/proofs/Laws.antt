@@ -41,7 +41,7 @@ fields-within p = p .within
 
 -- ---- the report that a check leaves is a row of the diagnostics that its answer counts
 
-none-row : (b : List ℕ) → Row b 0
+pub none-row : (b : List ℕ) → Row b 0
 none-row b = record { found = λ i l. absurd (omega arith); after = λ i l. absurd (omega arith); fits = omega arith }
 
 row-left : (s b : List ℕ) (filled room : ℕ) (o : Option Refusal) → Row (ifChecked (answerFor s filled room o) (startsWith (reportBytes (reportOf s)) b) b) (countOf (answerFor s filled room o))

@@ -30,7 +30,7 @@ const PIECE: usize = 65536;
 const LONGEST_REPORT: usize = 65535;
 
 // Prints the lines of a report's diagnostics, as many as count says, and says whether all were written.
-fn print_lines<'a>(
+pub fn print_lines<'a>(
     fd: i32,
     image: &'a [u8],
     layout: Layout,
@@ -160,7 +160,8 @@ pub enum Input {
     Unreadable,
 }
 
-fn read_from(fd: i32, image: &mut [u8]) -> Input
+// Reads an open file to the start of a buffer, as much of it as that holds.
+pub fn read_from(fd: i32, image: &mut [u8]) -> Input
     ensures { λ r. ⌜ readLength r ≤ length (now (image .exit)) ⌝ }
 {
     let n = io::read_full(fd, image);

@@ -7,9 +7,9 @@ use lib.ListN.{length, length-append}
 use borrow.Author.Needs.{needs}
 use borrow.Fn.Kinds.{In}
 use borrow.Fn.PlainCycle.{Measures, is, falls, and}
-use Rattle.decimal.specs.Decimal.{ten, digit, decimal}
+use Rattle.decimal.specs.Decimal.{ten, digit, wideDecimal}
 use Rattle.decimal.specs.Appending.{Appended}
-use Rattle.decimal.proofs.Decimal.{decimal-one, decimal-more}
+use Rattle.decimal.proofs.Decimal.{wide-one, wide-more}
 use Rattle.decimal.proofs.Appending.{appended-length, appended-as, appended-then}
 use Rattle.decimal.proofs.put_digits.Reads as put-digits
 use Rattle.decimal.proofs.put_digits.Kinds as put-digits-kinds
@@ -30,25 +30,25 @@ put-digits-below t =
     and 1 put-digits-kinds.ps (falls 1 put-digits-kinds.ps _<_ μ-put-digits t) put-digits.Pre
 
 -- one digit
-room-one : (b : List ℕ) (at n : ℕ) → at + length (decimal n) ≤ length b → n < ten → at < length b
-room-one b at n h l = omega (arith, ap length (decimal-one n l))
+room-one : (b : List ℕ) (at n : ℕ) → at + length (wideDecimal n) ≤ length b → n < ten → at < length b
+room-one b at n h l = omega (arith, ap length (wide-one n l))
 
-one : {b : List ℕ} {at n : ℕ} {b′ : List ℕ} {r : ℕ} → Appended b at (digit n ∷ []) b′ r → n < ten → Appended b at (decimal n) b′ r
-one {n = n} v l = appended-as v (sym (decimal-one n l))
+one : {b : List ℕ} {at n : ℕ} {b′ : List ℕ} {r : ℕ} → Appended b at (digit n ∷ []) b′ r → n < ten → Appended b at (wideDecimal n) b′ r
+one {n = n} v l = appended-as v (sym (wide-one n l))
 
 -- more than one
-split : (n : ℕ) → n < 4294967296 → ten ≤ n → length (decimal n) ≡ length (decimal (n / ten)) + 1
-split n f l = ap length (decimal-more n f l) ∙ length-append (decimal (n / ten)) (digit (n % ten) ∷ [])
+split : (n : ℕ) → n < 18446744073709551616 → ten ≤ n → length (wideDecimal n) ≡ length (wideDecimal (n / ten)) + 1
+split n f l = ap length (wide-more n f l) ∙ length-append (wideDecimal (n / ten)) (digit (n % ten) ∷ [])
 
-room-front : (b : List ℕ) (at n : ℕ) → at + length (decimal n) ≤ length b → n < 4294967296 → ten ≤ n → at + length (decimal (n / ten)) ≤ length b
+room-front : (b : List ℕ) (at n : ℕ) → at + length (wideDecimal n) ≤ length b → n < 18446744073709551616 → ten ≤ n → at + length (wideDecimal (n / ten)) ≤ length b
 room-front b at n h f l = omega (arith, split n f l)
 
-module _ {b : List ℕ} {at : ℕ} (n : ℕ) {b′ : List ℕ} {k : ℕ} (v : Appended b at (decimal (n / ten)) b′ k) (f : n < 4294967296) (l : ten ≤ n) where
-  room-last : at + length (decimal n) ≤ length b → k < length b′
+module _ {b : List ℕ} {at : ℕ} (n : ℕ) {b′ : List ℕ} {k : ℕ} (v : Appended b at (wideDecimal (n / ten)) b′ k) (f : n < 18446744073709551616) (l : ten ≤ n) where
+  room-last : at + length (wideDecimal n) ≤ length b → k < length b′
   room-last h = omega (arith, split n f l, v .behind, appended-length v)
 
-  more : {b″ : List ℕ} {r : ℕ} → Appended b′ k (digit (n % ten) ∷ []) b″ r → Appended b at (decimal n) b″ r
-  more w = appended-as (appended-then v w) (sym (decimal-more n f l))
+  more : {b″ : List ℕ} {r : ℕ} → Appended b′ k (digit (n % ten) ∷ []) b″ r → Appended b at (wideDecimal n) b″ r
+  more w = appended-as (appended-then v w) (sym (wide-more n f l))
 
 put-digits-put-digit-requires : (t : ℕ) → put-digits-lts.Need-put-digit-requires (
   put-digit-reads.Asked,

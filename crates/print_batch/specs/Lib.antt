@@ -1,0 +1,2 @@
+-- What stands in an output that is printed.
+pub mod Printing

@@ -1,0 +1,132 @@
+// A batch of images checked, and its report printed, image by image.
+use base::part_of;
+use batch::BatchAnswer;
+use batch::SUMMARY_SIZE;
+use batch::Summary;
+use batch_check::check_batch;
+use batch_framing::image_in;
+use image_accept::Acceptance;
+use image_accept::accept;
+use image_framing::first_field;
+use image_framing::next_field;
+use oce_diag::DIAGNOSTIC_SIZE;
+use oce_model::Field;
+use oce_model::MOST_BLOCKS;
+use oce_model::MOST_TEXTS;
+use outcome::Answer;
+use print_check::print_lines;
+use printed_batch::LONGEST_IMAGE_LINES;
+use printed_batch::LONGEST_REFUSAL_LINE;
+use printed_batch::answer_of;
+use printed_batch::count_of;
+use printed_batch::image_lines;
+use printed_batch::refusal_line;
+use printed_batch::summary_in;
+ghost use mathlib.Core.Path.{_≡_};
+ghost use Prim.Native.Nat.{_+_, _*_, _<_};
+ghost use Rattle.numbers.specs.Bytes.{wordRange};
+ghost use Rattle.oce_diag.specs.Encoding.{diagnosticSize};
+ghost use Rattle.printed.specs.Pieces.{Row};
+ghost use Rattle.batch.specs.Output.{summarySize};
+ghost use Rattle.batch.specs.Answer.{outputAfter};
+ghost use Rattle.printed_batch.specs.ReadBack.{countOf};
+ghost use Rattle.print_batch.specs.Printing.{Left, Part};
+
+// An output that is printed is shorter than this, so that each of its counts has room in four bytes.
+const LONG_OUTPUT: usize = 4294967296;
+
+fn print_refusal(fd: i32, number: u32, at: usize) -> bool {
+    let mut out = [0u8; LONGEST_REFUSAL_LINE];
+    let n = refusal_line(number, at, &mut out);
+    io::write_all(fd, part_of(&out, 0, n))
+}
+
+// ---- one image
+
+// Prints the line in front of image i and its first one.
+fn print_first(fd: i32, i: u32, answer: Answer) -> bool {
+    let mut out = [0u8; LONGEST_IMAGE_LINES];
+    let n = image_lines(i, answer, &mut out);
+    io::write_all(fd, part_of(&out, 0, n))
+}
+
+// Prints the lines of an accepted image's diagnostics, as many as count says.
+fn print_report<'a>(fd: i32, image: &'a [u8], report: &'a [u8], count: usize) -> bool
+    requires { ⌜ (count < wordRange) × Row (now report) count ⌝ }
+{
+    let mut texts = [0usize; MOST_TEXTS];
+    let mut blocks = [0usize; MOST_BLOCKS];
+    let acceptance = accept(image, &mut texts, &mut blocks);
+    match acceptance {
+        Acceptance::Refused { number: _, at: _ } => false,
+        Acceptance::Accepted(layout) => print_lines(fd, image, layout, &texts, report, count),
+    }
+}
+
+// Prints the image in a field, whose part of the output begins at o with the summary r.
+fn print_image<'a>(
+    fd: i32,
+    batch: &'a [u8],
+    f: Field,
+    output: &'a [u8],
+    o: usize,
+    r: Summary,
+) -> bool
+    requires { ⌜ Part (now batch) f (now output) o r ⌝ }
+{
+    if !print_first(fd, f.ord as u32, answer_of(r)) {
+        return false;
+    }
+    let count = count_of(r);
+    if count == 0 {
+        return true;
+    }
+    print_report(
+        fd,
+        image_in(batch, f),
+        part_of(output, o + SUMMARY_SIZE, DIAGNOSTIC_SIZE * count),
+        count,
+    )
+}
+
+// Where that part ends.
+fn part_end(o: usize, r: Summary) -> usize
+    requires { ⌜ o + summarySize + diagnosticSize * countOf r < wordRange ⌝ }
+    ensures { λ e. ⌜ e ≡ o + summarySize + diagnosticSize * countOf r ⌝ }
+{
+    o + SUMMARY_SIZE + DIAGNOSTIC_SIZE * count_of(r)
+}
+
+// ---- all of them
+
+// Prints the images of a batch that was checked: n bytes were written to the output.
+fn print_images<'a>(fd: i32, batch: &'a [u8], output: &'a [u8], n: usize) -> bool
+    requires { ⌜ Left (now batch) (now output) n ⌝ }
+{
+    if LONG_OUTPUT <= n {
+        return false;
+    }
+    let mut f = first_field(batch);
+    let mut o = 0;
+    while f.at < batch.len() {
+        let r = summary_in(output, o);
+        if !print_image(fd, batch, f, output, o, r) {
+            return false;
+        }
+        o = part_end(o, r);
+        f = next_field(batch, f);
+    }
+    true
+}
+
+// Checks a batch and prints its refusal, or its images one after the other. The output gets what
+// `check_batch` leaves there. Says whether all was written.
+pub fn print_batch(fd: i32, batch: &[u8], output: &mut [u8]) -> bool
+    ensures output { λ _. ⌜ now (output .exit) ≡ outputAfter (now (batch .entry)) (now (output .entry)) ⌝ }
+{
+    let answer = check_batch(batch, output);
+    match answer {
+        BatchAnswer::Refused { number, at } => print_refusal(fd, number, at),
+        BatchAnswer::Written(n) => print_images(fd, batch, output, n),
+    }
+}
