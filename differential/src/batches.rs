@@ -44,6 +44,8 @@ mod name {
     pub const TWO: &str = "two fields at fault";
     pub const LENGTH: &str = "another length in a field";
     pub const FULL: &str = "4,096 fields";
+    pub const BARE: &str = "4,096 fields, 65,536 bytes of output";
+    pub const ONE_REPORT: &str = "4,096 fields or fewer, the first with a report";
     pub const FULL_SHORT: &str = "4,096 fields, output one byte short";
     pub const MORE: &str = "4,097 fields or more";
     pub const MORE_FAULT: &str = "4,096 fields, then one at fault";
@@ -324,7 +326,33 @@ impl Batches {
         let before = r.below(MOST_IMAGES);
         let tagged = more.other_tag(&mut r, before);
         let at = full.starts[before];
-        self.at_fault(&mut r, &full, name::FAULT_MORE, &tagged, at)
+        self.at_fault(&mut r, &full, name::FAULT_MORE, &tagged, at)?;
+        self.one_pass(&mut r, &plain, &small)
+    }
+
+    /// Outputs about as long as the longest that the library makes in one pass: of 4,096 images without
+    /// a report, and of one with a report and fewer or as many of those.
+    fn one_pass(
+        &mut self,
+        r: &mut Random,
+        plain: &[Single],
+        small: &[&Single],
+    ) -> Result<(), String> {
+        let mut images: Vec<&Single> = (0..MOST_IMAGES)
+            .map(|_| &plain[r.below(plain.len())])
+            .collect();
+        let bare = Row::of(images.clone());
+        self.written(r, &bare, name::BARE, bare.output.len())?;
+        let Some(&reported) = small.iter().find(|s| !s.report.is_empty()) else {
+            return Ok(());
+        };
+        images[0] = reported;
+        let fewest = MOST_IMAGES - reported.report.len().div_ceil(SUMMARY_SIZE);
+        for count in fewest..=MOST_IMAGES {
+            let row = Row::of(images[..count].to_vec());
+            self.written(r, &row, name::ONE_REPORT, row.output.len())?;
+        }
+        Ok(())
     }
 
     /// A call that writes the whole output.
