@@ -5,7 +5,7 @@ use Prim.Native.Nat.{ℕ, _+_, _-_, _≤_, _<_}
 use native.Mathlib.Nat.{add-zero, zero-add}
 use native.Mathlib.Omega.{arith}
 use lib.ListN.{length, getD, take, drop, length-append, length-take, length-drop, take-append-drop, List·getD-append}
-use lib.Seq.{paste, length-take-le, take-length, take-at, drop-append-add, drop-drop, getD-append-add, getD-take, getD-drop}
+use lib.Seq.{paste, length-take-le, take-length, take-at, take-take, take-append-le, drop-append-seam, drop-append-add, drop-drop, getD-append-add, getD-take, getD-drop}
 use Rattle.base.specs.Buffers.{patch, startsWith}
 
 -- ---- patch
@@ -58,6 +58,18 @@ patch-patch s at xs ys h =
     let d : drop (at + length xs + length ys) (take at s ++ xs ++ drop (at + length xs) s) ≡ drop (at + length xs + length ys) s =
     (rw n at (drop-append-add (take at s ++ xs) (drop (at + length xs) s) (length ys))) ∙ drop-drop (length ys) (at + length xs) s in
     rw (take-at (take at s ++ xs) (drop (at + length xs) s) (at + length xs) n, d, e, append-assoc (take at s) xs ys)
+
+-- and so is a patch before a patch
+pub patch-reversed : (s : List ℕ) (at : ℕ) (xs ys : List ℕ) → at + length xs ≤ length s → patch (patch s (at + length xs) ys) at xs ≡ patch s at (xs ++ ys)
+unfolding patch
+patch-reversed s at xs ys h =
+    let front = take (at + length xs) s in
+    let behind = drop (at + length xs + length ys) s in
+    let n : length front ≡ at + length xs = length-take-le (at + length xs) s h in
+    let before : take at (front ++ (ys ++ behind)) ≡ take at s = take-append-le at front (ys ++ behind) (omega arith) ∙ take-take at (at + length xs) s (omega arith) in
+    let after : drop (at + length xs) (front ++ (ys ++ behind)) ≡ ys ++ behind = rw n at (drop-append-seam front (ys ++ behind)) in
+    let e : at + length (xs ++ ys) ≡ at + length xs + length ys = rw length-append (omega arith) in
+    rw (append-assoc front ys behind, before, after, e) (simp append-assoc)
 
 -- ---- startsWith
 

@@ -9,6 +9,7 @@ use lib.Seq.{length-take-le, take-at}
 use borrow.Rule.Slice.PartMut.{putMid, midOf}
 use Rattle.base.specs.Buffers.{patch, startsWith}
 use Rattle.base.proofs.Buffers.{patch-none, patch-length, patch-patch, startsWith-patch}
+use Rattle.base.proofs.Parts.{part-room, part-patched}
 use Rattle.oce_model.specs.Image.{fields}
 use Rattle.oce_model.specs.declared.Field.{Field}
 use Rattle.image_framing.specs.Walk.{after, start}
@@ -18,7 +19,7 @@ use Rattle.batch.specs.declared.Summary.{Summary}
 use Rattle.batch_framing.specs.Clean.{Clean, Passing}
 use Rattle.batch_framing.proofs.Passes.{passing-start, passing-step, passing-few, passing-more, passing-image, passing-end, passing-all}
 use Rattle.batch_image.specs.Summarized.{Summarized, sizeOf, mostBytes}
-use Rattle.batch_image.proofs.Laws.{output-size, part-patched, part-room}
+use Rattle.batch_image.proofs.Laws.{output-size}
 use Rattle.batch_check.specs.Kept.{keptLength, summaryAt, Noted, Begun, KeptTo, Kept}
 use Rattle.batch_check.specs.Called.{Measured, mostNeeded}
 

@@ -1,22 +1,18 @@
 -- One image of a batch: its summary, the bytes it needs, and its part of the output.
 use Prim.Native.Nat.{ℕ, _+_, _-_, _*_, _≤_, _<_}
-use native.Mathlib.Nat.{zero-add}
 use native.Mathlib.Omega.{arith}
 use mathlib.Core.Path.{_≡_, refl, sym, ap, _∙_}
-use mathlib.Core.List.{List, [], _∷_, _++_, append-assoc, append-nil}
+use mathlib.Core.List.{List, [], _∷_, _++_, append-nil}
 use mathlib.Core.Option.{Option, none, some}
-use lib.ListN.{length, take, drop, length-append, length-drop, drop-of-length-le}
-use lib.Seq.{length-take-le, take-all, take-take, take-append-le, drop-append-seam, drop-drop}
+use lib.ListN.{length}
 use borrow.Rule.Slice.PartMut.{putMid, midOf}
 use Rattle.base.specs.Buffers.{patch, startsWith}
-use Rattle.base.proofs.Buffers.{patch-patch, startsWith-none, startsWith-patch, startsWith-length}
-use Rattle.numbers.specs.Bytes.{leBytes}
+use Rattle.base.proofs.Buffers.{patch-reversed, startsWith-none, startsWith-patch, startsWith-length}
+use Rattle.base.proofs.Parts.{part-room, part-patched, part-behind}
 use Rattle.oce_model.specs.Model.{modelOf}
 use Rattle.oce_model.specs.Refusals.{Refusal, refusal}
-use Rattle.oce_diag.specs.Encoding.{diagnosticSize, reportBytes}
+use Rattle.oce_diag.specs.Encoding.{diagnosticSize}
 use Rattle.oce_diag.specs.declared.Counted.{Counted}
-use Rattle.oce_diag.specs.declared.Diagnostic.{Diagnostic}
-use Rattle.oce_diag.proofs.Diagnostics.{errors-warnings}
 use Rattle.oce_diag.proofs.Encoding.{reportBytes-length}
 use Rattle.oce_diag.proofs.Putting.{put-errors, put-warnings, put-room}
 use Rattle.image_accept.specs.Layout.{Laid, acceptance, accepts}
@@ -27,6 +23,7 @@ use Rattle.outcome.specs.Answer.{reportOf}
 use Rattle.rules.specs.Ran.{Ran}
 use Rattle.batch.specs.Output.{summarySize, summaryBy, summaryOf, reportBy, imageReport, summaryBytes, imageOutput}
 use Rattle.batch.specs.declared.Summary.{Summary}
+use Rattle.batch.proofs.Sizes.{summaryBytes-length, report-long, output-long}
 use Rattle.batch_image.specs.Summarized.{Counting, Summarized, Summed, Placed, sizeOf}
 
 -- ---- the check
@@ -40,24 +37,6 @@ counting h q = record {
   few = q .few;
   bytes = λ l. put-room (q .put) refl l;
 }
-
--- either it is turned away and has no report, or its report has all diagnostics
-data Known (s : List ℕ) (r : Summary) : Type 0 where
-  turned : imageReport s ≡ [] → r .errors + r .warnings ≡ 0 → Known s r
-  told : imageReport s ≡ reportBytes (reportOf s) → r .errors + r .warnings ≡ length (reportOf s) → Known s r
-
-known : {s : List ℕ} {r : Summary} → Summarized s r → Known s r
-unfolding summaryOf imageReport
-known {s} {r} v = arm (refusal s) refl
-  where
-    arm : (o : Option Refusal) → refusal s ≡ o → Known s r
-    arm none e =
-        let q : r ≡ summaryBy s none = v .is ∙ ap (summaryBy s) e in
-        let n = errors-warnings (reportOf s) in
-        told (rw e) (rw q n)
-    arm (some x) e =
-        let q : r ≡ summaryBy s (some x) = v .is ∙ ap (summaryBy s) e in
-        turned (rw e) (rw q)
 
 abbrev refusedAs : ℕ → ℕ → Summary
 refusedAs n at = record { refusal = n; at = at; errors = 0; warnings = 0 }
@@ -93,26 +72,16 @@ summed-counted {s} {b} {b′} t = record {
 
 -- ---- the bytes
 
-summaryBytes-length : (r : Summary) → length (summaryBytes r) ≡ summarySize
-unfolding summaryBytes leBytes
-summaryBytes-length r = refl
-
-empty : (ds : List Diagnostic) → length ds ≡ 0 → reportBytes ds ≡ []
-unfolding reportBytes
-empty [] e = refl
-empty (d ∷ ds) e = absurd (omega arith)
+none-left : (bs : List ℕ) → length bs ≡ 0 → bs ≡ []
+none-left [] e = refl
+none-left (b ∷ bs) e = absurd (omega arith)
 
 module _ {s : List ℕ} {r : Summary} (v : Summarized s r) where
   report-size : length (imageReport s) ≡ diagnosticSize * (r .errors + r .warnings)
-  report-size = arm (known v)
-    where
-      arm : Known s r → length (imageReport s) ≡ diagnosticSize * (r .errors + r .warnings)
-      arm (turned e z) = rw (e, z)
-      arm (told e n) = rw (e, n, reportBytes-length (reportOf s))
+  report-size = report-long s ∙ ap (λ (x : Summary). diagnosticSize * (x .errors + x .warnings)) (sym (v .is))
 
   pub output-size : length (imageOutput s) ≡ sizeOf r
-  unfolding imageOutput
-  output-size = length-append (summaryBytes (summaryOf s)) (imageReport s) ∙ rw (summaryBytes-length (summaryOf s), report-size)
+  output-size = output-long s ∙ ap sizeOf (sym (v .is))
 
   field-fits : {n : ℕ} → length (imageOutput s) ≤ n → summarySize ≤ n
   field-fits h = let e = output-size in omega arith
@@ -121,41 +90,12 @@ module _ {s : List ℕ} {r : Summary} (v : Summarized s r) where
   field-room o l = let k = field-fits l in omega arith
 
   none-due : r .errors + r .warnings ≡ 0 → imageReport s ≡ []
-  none-due z = arm (known v)
-    where
-      arm : Known s r → imageReport s ≡ []
-      arm (turned e _) = e
-      arm (told e n) = e ∙ empty (reportOf s) (sym n ∙ z)
+  none-due z = none-left (imageReport s) (report-size ∙ rw z)
 
 pub field-bytes : (r : Summary) (o : List ℕ) (at : ℕ) {h o₁ : List ℕ} → h ≡ summaryBytes r → o₁ ≡ patch o at h → o₁ ≡ patch o at (summaryBytes r)
 field-bytes r o at e p = p ∙ ap (patch o at) e
 
 -- ---- its part of the output
-
--- bytes written into the part of a buffer from an index on
-pub part-patched : (xs bs : List ℕ) (o k : ℕ) {zs : List ℕ} → zs ≡ startsWith bs (midOf o k xs) → k ≡ length xs - o → putMid o k xs zs ≡ patch xs o bs
-unfolding startsWith patch
-part-patched xs bs o k e l =
-    let rest : length (drop o xs) ≤ k = simp length-drop (omega arith) in
-    simp (e, take-all k (drop o xs) rest, drop-of-length-le (drop o xs) rest, append-nil, drop-drop, append-assoc)
-
-pub part-room : (xs : List ℕ) (o k n : ℕ) → k ≡ length xs - o → o + n ≤ length xs → n ≤ length (midOf o k xs)
-part-room xs o k n l h =
-    let d : length (drop o xs) ≡ length xs - o = length-drop o xs in
-    let f : length (midOf o k xs) ≡ k = length-take-le k (drop o xs) (omega arith) in
-    omega arith
-
--- a patch before a patch is one patch
-patch-reversed : (xs fs bs : List ℕ) (o : ℕ) → o + length fs ≤ length xs → patch (patch xs (o + length fs) bs) o fs ≡ patch xs o (fs ++ bs)
-unfolding patch
-patch-reversed xs fs bs o h =
-    let front = take (o + length fs) xs in
-    let behind = drop (o + length fs + length bs) xs in
-    let n : length front ≡ o + length fs = length-take-le (o + length fs) xs h in
-    let before : take o (front ++ (bs ++ behind)) ≡ take o xs = take-append-le o front (bs ++ behind) (omega arith) ∙ take-take o (o + length fs) xs (omega arith) in
-    let after : drop (o + length fs) (front ++ (bs ++ behind)) ≡ bs ++ behind = rw n at (drop-append-seam front (bs ++ behind)) in
-    let e : o + length (fs ++ bs) ≡ o + length fs + length bs = rw (length-append fs bs) (omega arith) in
-    rw (append-assoc front bs behind, before, after, e) (simp append-assoc)
 
 module _ {s : List ℕ} {r : Summary} (v : Summarized s r) (o : List ℕ) {o₁ : List ℕ} (p : o₁ ≡ patch o 0 (summaryBytes r)) (room : length (imageOutput s) ≤ length o) where
   field-is : o₁ ≡ startsWith (summaryBytes (summaryOf s)) o
@@ -181,12 +121,7 @@ module _ {s : List ℕ} {r : Summary} (v : Summarized s r) (o : List ℕ) {o₁ 
       let g = field-length in
       let n = output-size v in
       let m = report-size v in
-      let b = summaryBytes-length (summaryOf s) in
-      let fits : 0 + length (summaryBytes (summaryOf s)) ≤ length o = omega arith in
-      let is : o₁ ≡ patch o 0 (summaryBytes (summaryOf s)) = field-is ∙ startsWith-patch (summaryBytes (summaryOf s)) o in
-      let two : patch o₁ (0 + length (summaryBytes (summaryOf s))) (imageReport s) ≡ patch o 0 (summaryBytes (summaryOf s) ++ imageReport s) = rw is (patch-patch o 0 (summaryBytes (summaryOf s)) (imageReport s) fits) in
-      part-patched o₁ (imageReport s) summarySize k (w .bytes (part-room o₁ summarySize k (length (imageReport s)) l (omega arith))) l
-      ∙ (rw (zero-add (length (summaryBytes (summaryOf s))), b) at two) ∙ sym (startsWith-patch (summaryBytes (summaryOf s) ++ imageReport s) o)
+      part-behind summarySize (summaryBytes (summaryOf s)) (imageReport s) o o₁ zs k (sym (summaryBytes-length (summaryOf s))) (omega arith) field-is (w .bytes (part-room o₁ summarySize k (length (imageReport s)) l (omega arith)))
 
 -- ---- its part of the output, before it is known whether there is room for all
 
@@ -215,4 +150,4 @@ module _ {s : List ℕ} {r : Summary} (o : ℕ) (e : List ℕ) where
           let t = report-size v in
           let z : putMid (o + summarySize) k e zs ≡ patch e (o + summarySize) (imageReport s) =
           part-patched e (imageReport s) (o + summarySize) k (w .bytes (part-room e (o + summarySize) k (length (imageReport s)) m (omega arith))) m in
-          p ∙ rw z (rw b at (patch-reversed e (summaryBytes r) (imageReport s) o (omega (arith, b)))) ∙ ap (λ x. patch e o (summaryBytes x ++ imageReport s)) (v .is)
+          p ∙ rw z (rw b at (patch-reversed e o (summaryBytes r) (imageReport s) (omega (arith, b)))) ∙ ap (λ x. patch e o (summaryBytes x ++ imageReport s)) (v .is)

@@ -28,7 +28,8 @@ use Rattle.batch_framing.specs.Clean.{Passing}
 use Rattle.batch_framing.proofs.Finds.{found-clean}
 use Rattle.batch_framing.proofs.Passes.{passing-start, passing-step, passing-fits, passing-few}
 use Rattle.printed_batch.specs.ReadBack.{summaryIn, countOf}
-use Rattle.printed_batch.proofs.ReadBack.{summary-there, output-long}
+use Rattle.batch.proofs.Sizes.{output-long}
+use Rattle.printed_batch.proofs.ReadBack.{summary-there}
 use Rattle.printed_batch.proofs.Whole.{summary-first, report-first, next-first, written-faultless, written-needed}
 use Rattle.print_check.proofs.Laws.{none-row}
 use Rattle.print_batch.specs.Printing.{Left, Part}

@@ -3,14 +3,14 @@ use Prim.Native.Nat.{ℕ, _+_, _-_, _≤_}
 use native.Mathlib.Omega.{arith}
 use mathlib.Core.Path.{_≡_, sym}
 use mathlib.Core.Logic.{_≢_}
-use mathlib.Core.List.{List, _++_, append-assoc, append-nil}
-use lib.ListN.{length, drop, length-append, length-drop, drop-of-length-le}
-use lib.Seq.{take-all, take-append-seam, drop-append-seam, drop-drop}
+use mathlib.Core.List.{List, _++_}
+use lib.ListN.{length, length-append}
 use mir.Syntax.{w64}
 use mir.Val.{Fits}
 use borrow.Author.Tests.{eq-eqb, ne-eqb}
 use borrow.Rule.Slice.PartMut.{putMid, midOf}
 use Rattle.base.specs.Buffers.{startsWith}
+use Rattle.base.proofs.Parts.{part-behind}
 use Rattle.decimal.specs.Appending.{Appended}
 use Rattle.decimal.proofs.Decimal.{decimal-few}
 use Rattle.decimal.proofs.Appending.{appended-length, appended-start}
@@ -31,13 +31,6 @@ first-few (Refused n at) = simp length-append (omega (arith, decimal-few n, deci
 -- the index behind both
 pub lines-fit : (a : Answer) {k n : ℕ} → k ≤ longestImageLine → n ≡ length (firstLine a) → Fits w64 (k + n)
 lines-fit a h e = record { fits = omega (arith, first-few a) }
-
--- bytes written behind those at the start of a buffer
-part-behind : (a : ℕ) (l d xs ys zs : List ℕ) (k : ℕ) → a ≡ length l → length xs ≤ a + k → ys ≡ startsWith l xs → zs ≡ startsWith d (midOf a k ys) → putMid a k ys zs ≡ startsWith (l ++ d) xs
-unfolding startsWith
-part-behind a l d xs ys zs k e h ey ez =
-    let rest : length (drop (length l) xs) ≤ k = simp length-drop (omega arith) in
-    simp (e, ez, ey, take-append-seam l, drop-append-seam l, take-all k (drop (length l) xs) rest, drop-of-length-le (drop (length l) xs) rest, append-nil, drop-drop, append-assoc, length-append)
 
 module _ (i : ℕ) {b b′ : List ℕ} {k : ℕ} (v : Appended b 0 (imageLine i) b′ k) (a : Answer) where
   pub lines-length : {n : ℕ} → n ≡ length (firstLine a) → k + n ≡ length (imageLine i ++ firstLine a)

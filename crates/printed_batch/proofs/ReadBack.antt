@@ -7,7 +7,7 @@ use mathlib.Core.Bool.{Bool, true, false, cond, _||_}
 use mathlib.Core.List.{List, [], _∷_, _++_}
 use mathlib.Core.Option.{Option, none, some}
 use lib.Dec.{leb, ltb}
-use lib.ListN.{length, drop, length-append}
+use lib.ListN.{length, drop}
 use lib.Seq.{getD-drop}
 use borrow.Author.Tests.{leb-true, le-ltb, ltb-true, ltb-false, ne-eqb}
 use Rattle.base.proofs.Lists.{or-parts}
@@ -19,11 +19,10 @@ use Rattle.oce_model.specs.declared.Field.{Field}
 use Rattle.oce_model.specs.Refusals.{Refusal, fault, refusedAt, refusalsFrom, refusal}
 use Rattle.oce_diag.specs.Diagnostics.{errors, warnings}
 use Rattle.oce_diag.specs.Encoding.{diagnosticSize}
-use Rattle.oce_diag.proofs.Diagnostics.{errors-warnings}
-use Rattle.oce_diag.proofs.Encoding.{reportBytes-length}
 use Rattle.outcome.specs.Answer.{reportOf, reportSize, answerFor, answer}
-use Rattle.batch.specs.Output.{summaryTag, summaryLength, summarySize, summaryBy, summaryOf, summaryBytes, reportBy, imageReport, imageOutput}
+use Rattle.batch.specs.Output.{summaryTag, summaryLength, summarySize, summaryBy, summaryOf, summaryBytes, imageOutput}
 use Rattle.batch.specs.declared.Summary.{Summary}
+use Rattle.batch.proofs.Sizes.{output-long}
 use Rattle.printed_batch.specs.PrintedBatch.{answerAlone}
 use Rattle.printed_batch.specs.ReadBack.{summaryIn, Fitting, answerOf, countOf}
 
@@ -68,10 +67,6 @@ summary-there b o = rw (sym (getD-drop o b 3 0), number 4, number 8, number 12)
   where
     number : (k : ℕ) → le32 b (o + k) ≡ le32 (drop o b) k
     number k = le-same 4 b (drop o b) (o + k) k (λ i h. (let e : o + k + i ≡ o + (k + i) = omega arith in rw e (sym (getD-drop o b (k + i) 0))))
-
-pub summaryBytes-length : (r : Summary) → length (summaryBytes r) ≡ summarySize
-unfolding summaryBytes leBytes
-summaryBytes-length r = refl
 
 -- ---- refusals of an image: a number from 1 to 8, and an offset that an image can have
 
@@ -148,17 +143,9 @@ refusal-small s r h = size (ltb (length s) shortestImage || ltb longestImage (le
 
 -- its numbers have room where its part of the output is shorter than a number of four bytes
 module _ (t : List ℕ) where
-  pub output-long : length (imageOutput t) ≡ summarySize + diagnosticSize * countOf (summaryOf t)
-  unfolding imageOutput imageReport summaryOf
-  output-long = rw (length-append (summaryBytes (summaryOf t)) (imageReport t), summaryBytes-length (summaryOf t)) (arm (refusal t))
-    where
-      arm : (o : Option Refusal) → summarySize + length (reportBy t o) ≡ summarySize + diagnosticSize * countOf (summaryBy t o)
-      arm none = rw (reportBytes-length (reportOf t), errors-warnings (reportOf t))
-      arm (some r) = refl
-
   pub summary-fits : length (imageOutput t) < wordRange → Fitting (summaryOf t)
   unfolding summaryOf
-  summary-fits l = arm (refusal t) refl (rw output-long at l)
+  summary-fits l = arm (refusal t) refl (rw (output-long t) at l)
     where
       arm : (o : Option Refusal) → refusal t ≡ o → summarySize + diagnosticSize * countOf (summaryBy t o) < wordRange → Fitting (summaryBy t o)
       arm none e l = record { refusal = omega arith; at = omega arith; errors = omega arith; warnings = omega arith }

@@ -32,7 +32,8 @@ use Rattle.batch.specs.Answer.{answerWith, batchAnswerFor, batchAnswer, outputA
 use Rattle.batch.specs.declared.BatchAnswer.the-variants.{Refused, Written}
 use Rattle.printed_batch.specs.PrintedBatch.{imageLine, imageText, imageTexts, printedBatch}
 use Rattle.printed_batch.specs.ReadBack.{summaryIn, answerOf, countOf, imagePieces, pieces}
-use Rattle.printed_batch.proofs.ReadBack.{summary-back, summaryBytes-length, output-long, refusal-small, summary-fits, answer-single}
+use Rattle.batch.proofs.Sizes.{summaryBytes-length, output-long}
+use Rattle.printed_batch.proofs.ReadBack.{summary-back, refusal-small, summary-fits, answer-single}
 
 -- ---- one image's part of an output, and what stands behind it
 
