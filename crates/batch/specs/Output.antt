@@ -1,9 +1,10 @@
 -- What the output holds: for each image a field that sums up its check, then its report. FORMAT 22.
-use Prim.Native.Nat.{ℕ}
+use Prim.Native.Nat.{ℕ, _+_}
 use mathlib.Core.List.{List, [], _∷_, _++_}
 use mathlib.Core.Option.{Option, none, some}
 use lib.ListN.{length}
 use Rattle.numbers.specs.Bytes.{leBytes}
+use Rattle.oce_model.specs.Format.{leadingBytes}
 use Rattle.oce_model.specs.Refusals.{Refusal, refusal}
 use Rattle.oce_diag.specs.Diagnostics.{errors, warnings}
 use Rattle.oce_diag.specs.Encoding.{reportBytes}
@@ -19,7 +20,20 @@ abbrev pub summaryLength : ℕ
 summaryLength = 13
 
 abbrev pub summarySize : ℕ
-summarySize = 16
+summarySize = leadingBytes + summaryLength
+
+-- where its numbers stand in it, from its tag
+abbrev pub refusalPlace : ℕ
+refusalPlace = 3
+
+abbrev pub atPlace : ℕ
+atPlace = 4
+
+abbrev pub errorsPlace : ℕ
+errorsPlace = 8
+
+abbrev pub warningsPlace : ℕ
+warningsPlace = 12
 
 -- An image has the room that it needs. If it is turned away, its refusal's number and offset; otherwise its report's errors and warnings. 0 where there is none.
 abbrev pub summaryBy : List ℕ → Option Refusal → Summary

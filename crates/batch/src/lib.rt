@@ -1,4 +1,5 @@
 // A batch of images (FORMAT 22): what its definitions and the code of `check_batch` share.
+use oce_model::LEADING_BYTES;
 
 // What the output says of one image: its refusal and that refusal's offset, or its errors and warnings;
 // 0 where there is none.
@@ -24,6 +25,16 @@ pub const MOST_IMAGES: usize = 4096;
 
 pub const SUMMARY_TAG: u8 = 0x31;
 
-pub const SUMMARY_LENGTH: u8 = 13;
+pub const SUMMARY_LENGTH: usize = 13;
 
-pub const SUMMARY_SIZE: usize = 16;
+pub const SUMMARY_SIZE: usize = LEADING_BYTES + SUMMARY_LENGTH;
+
+// where the numbers stand in the field of a summary
+
+pub const REFUSAL_PLACE: usize = 3;
+
+pub const AT_PLACE: usize = 4;
+
+pub const ERRORS_PLACE: usize = 8;
+
+pub const WARNINGS_PLACE: usize = 12;

@@ -137,7 +137,7 @@ fn encode(r: Summary) -> [u8; SUMMARY_SIZE]
     let warnings = r.warnings;
     [
         SUMMARY_TAG,
-        SUMMARY_LENGTH,
+        SUMMARY_LENGTH as u8,
         0,
         (refusal % BYTE_RANGE_U32) as u8,
         (at % BYTE_RANGE_U32) as u8,

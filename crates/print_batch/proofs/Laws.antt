@@ -13,7 +13,6 @@ use Rattle.oce_model.specs.Refusals.{Refusal, refusal}
 use Rattle.oce_model.specs.declared.Field.{Field}
 use Rattle.oce_diag.specs.Encoding.{diagnosticSize, reportBytes}
 use Rattle.oce_diag.proofs.Diagnostics.{errors-warnings}
-use Rattle.oce_diag.proofs.Encoding.{reportBytes-length}
 use Rattle.outcome.specs.Answer.{reportOf}
 use Rattle.image_framing.specs.Walk.{after, endOf, foundOf, start}
 use Rattle.printed.specs.Pieces.{Row}
@@ -28,7 +27,7 @@ use Rattle.batch_framing.specs.Clean.{Passing}
 use Rattle.batch_framing.proofs.Finds.{found-clean}
 use Rattle.batch_framing.proofs.Passes.{passing-start, passing-step, passing-fits, passing-few}
 use Rattle.printed_batch.specs.ReadBack.{summaryIn, countOf}
-use Rattle.batch.proofs.Sizes.{output-long}
+use Rattle.batch.proofs.Sizes.{report-long, output-long}
 use Rattle.printed_batch.proofs.ReadBack.{summary-there}
 use Rattle.printed_batch.proofs.Whole.{summary-first, report-first, next-first, written-faultless, written-needed}
 use Rattle.print_check.proofs.Laws.{none-row}
@@ -59,14 +58,6 @@ row-there t = arm (refusal t)
     arm : (o : Option Refusal) → Row (reportBy t o) (countOf (summaryBy t o))
     arm none = rw (errors-warnings (reportOf t)) (rw (bare (length (reportBytes (reportOf t))) (reportBytes (reportOf t))) at (row-report (reportOf t) []))
     arm (some r) = none-row []
-
-report-long : (t : List ℕ) → length (imageReport t) ≡ diagnosticSize * countOf (summaryOf t)
-unfolding imageReport summaryOf
-report-long t = arm (refusal t)
-  where
-    arm : (o : Option Refusal) → length (reportBy t o) ≡ diagnosticSize * countOf (summaryBy t o)
-    arm none = rw (reportBytes-length (reportOf t), errors-warnings (reportOf t))
-    arm (some r) = refl
 
 -- ---- the pass
 

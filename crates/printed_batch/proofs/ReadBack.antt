@@ -20,7 +20,7 @@ use Rattle.oce_model.specs.Refusals.{Refusal, fault, refusedAt, refusalsFrom, r
 use Rattle.oce_diag.specs.Diagnostics.{errors, warnings}
 use Rattle.oce_diag.specs.Encoding.{diagnosticSize}
 use Rattle.outcome.specs.Answer.{reportOf, reportSize, answerFor, answer}
-use Rattle.batch.specs.Output.{summaryTag, summaryLength, summarySize, summaryBy, summaryOf, summaryBytes, imageOutput}
+use Rattle.batch.specs.Output.{summaryTag, summaryLength, summarySize, summaryBy, summaryOf, summaryBytes, imageOutput, refusalPlace, atPlace, errorsPlace, warningsPlace}
 use Rattle.batch.specs.declared.Summary.{Summary}
 use Rattle.batch.proofs.Sizes.{output-long}
 use Rattle.printed_batch.specs.PrintedBatch.{answerAlone}
@@ -39,19 +39,19 @@ before-warnings : Summary → List ℕ
 before-warnings r = before-errors r ++ leBytes 4 (r .errors)
 
 module _ (r : Summary) (b : List ℕ) (f : Fitting r) where
-  refusal-back : byte (summaryBytes r ++ b) 3 ≡ r .refusal
+  refusal-back : byte (summaryBytes r ++ b) refusalPlace ≡ r .refusal
   unfolding summaryBytes leBytes
   refusal-back = let h = f .refusal in omega arith
 
-  at-back : le32 (summaryBytes r ++ b) 4 ≡ r .at
+  at-back : le32 (summaryBytes r ++ b) atPlace ≡ r .at
   unfolding summaryBytes before-at leBytes
   at-back = le-append-right 4 (before-at r) (leBytes 4 (r .at) ++ (leBytes 4 (r .errors) ++ (leBytes 4 (r .warnings) ++ b))) 0 ∙ le-bytes 4 (r .at) _ (f .at)
 
-  errors-back : le32 (summaryBytes r ++ b) 8 ≡ r .errors
+  errors-back : le32 (summaryBytes r ++ b) errorsPlace ≡ r .errors
   unfolding summaryBytes before-errors before-at leBytes
   errors-back = le-append-right 4 (before-errors r) (leBytes 4 (r .errors) ++ (leBytes 4 (r .warnings) ++ b)) 0 ∙ le-bytes 4 (r .errors) _ (f .errors)
 
-  warnings-back : le32 (summaryBytes r ++ b) 12 ≡ r .warnings
+  warnings-back : le32 (summaryBytes r ++ b) warningsPlace ≡ r .warnings
   unfolding summaryBytes before-warnings before-errors before-at leBytes
   warnings-back = le-append-right 4 (before-warnings r) (leBytes 4 (r .warnings) ++ b) 0 ∙ le-bytes 4 (r .warnings) b (f .warnings)
 
@@ -63,7 +63,7 @@ module _ (r : Summary) (b : List ℕ) (f : Fitting r) where
 -- an offset of an output, and the start of what is left from there on
 pub summary-there : (b : List ℕ) (o : ℕ) → summaryIn b o ≡ summaryIn (drop o b) 0
 unfolding summaryIn
-summary-there b o = rw (sym (getD-drop o b 3 0), number 4, number 8, number 12)
+summary-there b o = rw (sym (getD-drop o b refusalPlace 0), number atPlace, number errorsPlace, number warningsPlace)
   where
     number : (k : ℕ) → le32 b (o + k) ≡ le32 (drop o b) k
     number k = le-same 4 b (drop o b) (o + k) k (λ i h. (let e : o + k + i ≡ o + (k + i) = omega arith in rw e (sym (getD-drop o b (k + i) 0))))

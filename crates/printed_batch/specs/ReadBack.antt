@@ -8,25 +8,12 @@ use Rattle.numbers.specs.Bytes.{byteRange, wordRange, byte, le32}
 use Rattle.oce_diag.specs.Encoding.{diagnosticSize}
 use Rattle.outcome.specs.declared.Answer.{Answer}
 use Rattle.outcome.specs.declared.Answer.the-variants.{Refused, Checked}
-use Rattle.batch.specs.Output.{summarySize}
+use Rattle.batch.specs.Output.{summarySize, refusalPlace, atPlace, errorsPlace, warningsPlace}
 use Rattle.batch.specs.declared.Summary.{Summary}
 use Rattle.printed.specs.Printed.{firstLine, linesFrom}
 use Rattle.printed_batch.specs.PrintedBatch.{imageLine}
 
 -- ---- one summary
-
--- where its numbers stand in its field: behind tag and length, one byte, then four each
-abbrev pub refusalPlace : ℕ
-refusalPlace = 3
-
-abbrev pub atPlace : ℕ
-atPlace = 4
-
-abbrev pub errorsPlace : ℕ
-errorsPlace = 8
-
-abbrev pub warningsPlace : ℕ
-warningsPlace = 12
 
 -- the summary whose field begins at an offset of an output
 unfoldable pub summaryIn : List ℕ → ℕ → Summary

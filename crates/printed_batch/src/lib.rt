@@ -1,5 +1,9 @@
 // The lines that are printed for a batch, put into a lent buffer; and summaries read back from its output.
+use batch::AT_PLACE;
+use batch::ERRORS_PLACE;
+use batch::REFUSAL_PLACE;
 use batch::Summary;
+use batch::WARNINGS_PLACE;
 use decimal::put_bytes;
 use decimal::put_labelled;
 use decimal::put_labelled_wide;
@@ -24,15 +28,6 @@ pub const LONGEST_IMAGE_LINES: usize = 55;
 
 // No line of a refused batch is longer.
 pub const LONGEST_REFUSAL_LINE: usize = 43;
-
-// Where the numbers stand in a summary's field.
-const REFUSAL_PLACE: usize = 3;
-
-const AT_PLACE: usize = 4;
-
-const ERRORS_PLACE: usize = 8;
-
-const WARNINGS_PLACE: usize = 12;
 
 // ---- lines
 
