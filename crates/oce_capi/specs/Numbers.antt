@@ -1,4 +1,4 @@
--- The answers as a caller in C sees it.
+-- The answers as a caller in C sees them.
 use Prim.Native.Nat.{ℕ}
 use Rattle.outcome.specs.declared.Answer.{Answer}
 use Rattle.outcome.specs.declared.Answer.the-variants.{Refused, Checked}
