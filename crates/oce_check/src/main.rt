@@ -7,24 +7,15 @@ use libc::STDERR_FILENO;
 use libc::STDIN_FILENO;
 use libc::STDOUT_FILENO;
 use oce_model::LONGEST_IMAGE;
-use print_batch::print_batch;
+use print_batch::Ending;
+use print_batch::print_batch_of;
 use print_check::Input;
 use print_check::print_check;
 use print_check::print_fields;
-use print_check::read_from;
 use print_check::read_image;
 
 // One byte more than the longest image, to notice one that is longer.
 const READ: usize = LONGEST_IMAGE + 1;
-
-// A batch that is read has no more bytes: sixty-four images of nearly full size.
-const LONGEST_BATCH: usize = 4194304;
-
-// One more, to notice a batch that is longer.
-const READ_BATCH: usize = LONGEST_BATCH + 1;
-
-// The bytes that are lent for a batch's output.
-const BATCH_OUTPUT: usize = 2097152;
 
 fn print_help() {
     io::write_all(
@@ -168,43 +159,22 @@ fn list_named(count: usize) {
     list_file(&name[..n]);
 }
 
-// Prints a batch, with an output of its own.
-fn print_with_output(batch: &[u8]) -> bool {
-    let mut output = [0u8; BATCH_OUTPUT];
-    print_batch(STDOUT_FILENO, batch, &mut output)
-}
-
-// Checks a batch that was read.
-fn check_read(batch: &[u8]) {
-    if LONGEST_BATCH < batch.len() {
-        complain(b"the batch is longer than 4194304 bytes");
-        return;
-    }
-    if !print_with_output(batch) {
-        complain(b"not all of the report could be written");
+// Says what went wrong with a batch; name is what complaints call its file.
+fn complain_of_batch(ending: Ending, name: &[u8]) {
+    match ending {
+        Ending::Printed => {}
+        Ending::Unreadable => os::fail(name),
+        Ending::TooLong => complain(b"the batch is longer than 4194304 bytes"),
+        Ending::NotWritten => complain(b"not all of the report could be written"),
     }
 }
 
-// Reads a batch of an open file to a buffer and checks it; name is what complaints call the file.
-fn check_batch_in(fd: i32, name: &[u8], buffer: &mut [u8]) {
-    let input = read_from(fd, buffer);
-    match input {
-        Input::Bytes(n) => check_read(part_of(buffer, 0, n)),
-        Input::Unreadable => os::fail(name),
-    }
-}
-
-// The same with a buffer of its own. It is called in two places, so that its frame, which is large, stays
-// out of main's.
-fn check_batch_from(fd: i32, name: &[u8]) {
-    let mut buffer = [0u8; READ_BATCH];
-    check_batch_in(fd, name, &mut buffer);
-}
-
-// Checks a batch of standard input, or of the file that the second argument names.
+// Checks a batch of standard input, or of the file that the second argument names: two calls, so that what
+// they need of the stack isn't main's.
 fn check_images(count: usize) {
     if count <= 2 {
-        check_batch_from(STDIN_FILENO, b"standard input");
+        let ending = print_batch_of(STDOUT_FILENO, STDIN_FILENO);
+        complain_of_batch(ending, b"standard input");
         return;
     }
     let mut name = io::buffer();
@@ -218,7 +188,8 @@ fn check_images(count: usize) {
         os::fail(&name[..n]);
         return;
     }
-    check_batch_from(fd, &name[..n]);
+    let ending = print_batch_of(STDOUT_FILENO, fd);
+    complain_of_batch(ending, &name[..n]);
     libc::close(fd);
 }
 

@@ -14,7 +14,9 @@ use oce_model::Field;
 use oce_model::MOST_BLOCKS;
 use oce_model::MOST_TEXTS;
 use outcome::Answer;
+use print_check::Input;
 use print_check::print_lines;
+use print_check::read_from;
 use printed_batch::LONGEST_IMAGE_LINES;
 use printed_batch::LONGEST_REFUSAL_LINE;
 use printed_batch::answer_of;
@@ -34,6 +36,15 @@ ghost use Rattle.print_batch.specs.Printing.{Left, Part};
 
 // An output that is printed is shorter than this, so that each of its counts has room in four bytes.
 const LONG_OUTPUT: usize = 4294967296;
+
+// A batch that is read has no more bytes (oce_check names the number): sixty-four images of nearly full size.
+const LONGEST_BATCH: usize = 4194304;
+
+// One more, to notice a batch that is longer.
+const READ_BATCH: usize = LONGEST_BATCH + 1;
+
+// The bytes that are lent for the output of a batch that is read.
+const READ_OUTPUT: usize = 2097152;
 
 fn print_refusal(fd: i32, number: u32, at: usize) -> bool {
     let mut out = [0u8; LONGEST_REFUSAL_LINE];
@@ -129,4 +140,46 @@ pub fn print_batch(fd: i32, batch: &[u8], output: &mut [u8]) -> bool
         BatchAnswer::Refused { number, at } => print_refusal(fd, number, at),
         BatchAnswer::Written(n) => print_images(fd, batch, output, n),
     }
+}
+
+// ---- a batch that is read
+
+// How it ended: all of it printed; not read; longer than what is taken, nothing printed; not all written.
+pub enum Ending {
+    Printed,
+    Unreadable,
+    TooLong,
+    NotWritten,
+}
+
+// Prints a batch, with an output of its own.
+fn print_with_output(fd: i32, batch: &[u8]) -> bool {
+    let mut output = [0u8; READ_OUTPUT];
+    print_batch(fd, batch, &mut output)
+}
+
+// Prints a batch that was read.
+fn print_read(fd: i32, batch: &[u8]) -> Ending {
+    if LONGEST_BATCH < batch.len() {
+        return Ending::TooLong;
+    }
+    if print_with_output(fd, batch) {
+        return Ending::Printed;
+    }
+    Ending::NotWritten
+}
+
+// Reads a batch of an open file to a buffer and prints it.
+fn read_and_print(fd: i32, from: i32, buffer: &mut [u8]) -> Ending {
+    let input = read_from(from, buffer);
+    match input {
+        Input::Bytes(n) => print_read(fd, part_of(buffer, 0, n)),
+        Input::Unreadable => Ending::Unreadable,
+    }
+}
+
+// The same with a buffer of its own. Its frame is large: called from one place alone it would be inlined there.
+pub fn print_batch_of(fd: i32, from: i32) -> Ending {
+    let mut buffer = [0u8; READ_BATCH];
+    read_and_print(fd, from, &mut buffer)
 }
