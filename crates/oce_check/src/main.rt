@@ -8,7 +8,7 @@ use libc::STDIN_FILENO;
 use libc::STDOUT_FILENO;
 use oce_model::LONGEST_IMAGE;
 use print_batch::Ending;
-use print_batch::print_batch_of;
+use print_batch::print_batch_from;
 use print_check::Input;
 use print_check::print_check;
 use print_check::print_fields;
@@ -173,7 +173,7 @@ fn complain_of_batch(ending: Ending, name: &[u8]) {
 // they need of the stack isn't main's.
 fn check_images(count: usize) {
     if count <= 2 {
-        let ending = print_batch_of(STDOUT_FILENO, STDIN_FILENO);
+        let ending = print_batch_from(STDOUT_FILENO, STDIN_FILENO);
         complain_of_batch(ending, b"standard input");
         return;
     }
@@ -188,7 +188,7 @@ fn check_images(count: usize) {
         os::fail(&name[..n]);
         return;
     }
-    let ending = print_batch_of(STDOUT_FILENO, fd);
+    let ending = print_batch_from(STDOUT_FILENO, fd);
     complain_of_batch(ending, &name[..n]);
     libc::close(fd);
 }

@@ -26,6 +26,7 @@ use printed_batch::refusal_line;
 use printed_batch::summary_in;
 ghost use mathlib.Core.Path.{_≡_};
 ghost use Prim.Native.Nat.{_+_, _*_, _<_};
+ghost use lib.ListN.{length};
 ghost use Rattle.numbers.specs.Bytes.{wordRange};
 ghost use Rattle.oce_diag.specs.Encoding.{diagnosticSize};
 ghost use Rattle.printed.specs.Pieces.{Row};
@@ -33,6 +34,7 @@ ghost use Rattle.batch.specs.Output.{summarySize};
 ghost use Rattle.batch.specs.Answer.{outputAfter};
 ghost use Rattle.printed_batch.specs.ReadBack.{countOf};
 ghost use Rattle.print_batch.specs.Printing.{Left, Part};
+ghost use Rattle.print_batch.specs.Reading.{longestBatch, PrintedAs, ReadAs, SomeRead};
 
 // An output that is printed is shorter than this, so that each of its counts has room in four bytes.
 const LONG_OUTPUT: usize = 4294967296;
@@ -152,34 +154,42 @@ pub enum Ending {
     NotWritten,
 }
 
-// Prints a batch, with an output of its own.
-fn print_with_output(fd: i32, batch: &[u8]) -> bool {
-    let mut output = [0u8; READ_OUTPUT];
-    print_batch(fd, batch, &mut output)
-}
-
-// Prints a batch that was read.
-fn print_read(fd: i32, batch: &[u8]) -> Ending {
+// Prints a batch that was read, unless it is longer than what is taken.
+fn print_read(fd: i32, batch: &[u8], output: &mut [u8]) -> Ending
+    ensures { λ e. ⌜ PrintedAs (now (batch .entry)) (now (output .entry)) (now (output .exit)) e ⌝ }
+{
     if LONGEST_BATCH < batch.len() {
         return Ending::TooLong;
     }
-    if print_with_output(fd, batch) {
+    if print_batch(fd, batch, output) {
         return Ending::Printed;
     }
     Ending::NotWritten
 }
 
-// Reads a batch of an open file to a buffer and prints it.
-fn read_and_print(fd: i32, from: i32, buffer: &mut [u8]) -> Ending {
-    let input = read_from(from, buffer);
+// Prints the batch that was read to the start of a buffer, which has room to notice one that is longer.
+fn print_input(fd: i32, input: Input, buffer: &[u8], output: &mut [u8]) -> Ending
+    requires { ⌜ longestBatch < length (now buffer) ⌝ }
+    ensures { λ e. ⌜ ReadAs input (now (buffer .entry)) (now (output .entry)) (now (output .exit)) e ⌝ }
+{
     match input {
-        Input::Bytes(n) => print_read(fd, part_of(buffer, 0, n)),
+        Input::Bytes(n) => print_read(fd, part_of(buffer, 0, n), output),
         Input::Unreadable => Ending::Unreadable,
     }
 }
 
-// The same with a buffer of its own. Its frame is large: called from one place alone it would be inlined there.
-pub fn print_batch_of(fd: i32, from: i32) -> Ending {
+// Reads a batch of an open file to such a buffer and prints it.
+fn read_and_print(fd: i32, from: i32, buffer: &mut [u8], output: &mut [u8]) -> Ending
+    requires { ⌜ longestBatch < length (now buffer) ⌝ }
+    ensures { λ e. ⌜ SomeRead (now (buffer .exit)) (now (output .entry)) (now (output .exit)) e ⌝ }
+{
+    let input = read_from(from, buffer);
+    print_input(fd, input, buffer, output)
+}
+
+// The same with buffers of its own. Its frame is large: called from one place alone it would be inlined there.
+pub fn print_batch_from(fd: i32, from: i32) -> Ending {
     let mut buffer = [0u8; READ_BATCH];
-    read_and_print(fd, from, &mut buffer)
+    let mut output = [0u8; READ_OUTPUT];
+    read_and_print(fd, from, &mut buffer, &mut output)
 }
