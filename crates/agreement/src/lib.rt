@@ -1,5 +1,7 @@
 // Whether what a check of a stored image gives agrees with the oracle's answer, as
 // docs/STORED_ANSWERS.md has them.
+#![tactic(auto)]
+
 ghost use Rattle.std.specs.Prelude.{◌≡◌, length, take};
 ghost use Rattle.std.proofs.Math.Option.{none};
 ghost use Rattle.oce_model.specs.Refusals.{refusal};
@@ -20,7 +22,7 @@ use stored::Record;
 const LONGEST_REPORT: usize = 131072;
 
 // What differs first, if anything.
-#[derive(Drop)]
+#[derive(Clone, Copy)]
 pub enum Agreement {
     Same,
     // The refusal here.

@@ -1,4 +1,6 @@
 // Stored diagnostics beside those of a report, as docs/STORED_ANSWERS.md has them.
+#![tactic(auto)]
+
 ghost use Rattle.std.specs.Prelude.{◌≡◌, ◌≤◌, length};
 ghost use Rattle.outcome.specs.Answer.{report_of};
 ghost use Rattle.agreement_diagnostics.specs.Diagnostics.{same_fields, same_numbers, same_subject, agrees, alike, place_of, Reported};
@@ -39,7 +41,7 @@ const NUMBER_BIT: usize = 0;
 const PLACE_BIT: usize = 1;
 
 // How many diagnostics agreed, and where the next stored one begins.
-#[derive(Drop)]
+#[derive(Clone, Copy)]
 pub struct Walk {
     pub at: usize,
     pub count: usize,

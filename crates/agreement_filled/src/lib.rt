@@ -1,5 +1,7 @@
 // Stored filled records, and the filled image beside the image with their attributes, as
 // docs/STORED_ANSWERS.md has them.
+#![tactic(auto)]
+
 ghost use Rattle.std.specs.Prelude.{◌≡◌, cond, ◌&&◌, ◌+◌, ◌*◌, ◌≤◌, eqb, length, take};
 ghost use Rattle.std.proofs.Math.Option.{none};
 ghost use Rattle.base.specs.Lists.{same};

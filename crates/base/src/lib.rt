@@ -1,4 +1,6 @@
 // Bytes copied into a lent buffer, and parts of a lent slice.
+#![tactic(auto)]
+
 ghost use Rattle.std.specs.Prelude.{◌≡◌, ◌+◌, ◌≤◌, length, take, drop};
 ghost use Rattle.base.specs.Buffers.{patch};
 

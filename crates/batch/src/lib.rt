@@ -1,9 +1,11 @@
 // A batch of images (FORMAT 22): what its definitions and the code of `check_batch` share.
+#![tactic(auto)]
+
 use oce_model::LEADING_BYTES;
 
 // What the output says of one image: its refusal and that refusal's offset, or its errors and warnings;
 // 0 where there is none.
-#[derive(Drop)]
+#[derive(Clone, Copy)]
 pub struct Summary {
     pub refusal: u32,
     pub at: u32,
@@ -13,7 +15,7 @@ pub struct Summary {
 
 // What a call answers: a refusal's number with the offset of the field at fault (11) or the bytes needed
 // (12), or how many bytes were written.
-#[derive(Drop)]
+#[derive(Clone, Copy)]
 pub enum BatchAnswer {
     Refused { number: u32, at: usize },
     Written(usize),

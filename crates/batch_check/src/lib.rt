@@ -1,4 +1,6 @@
 // The checking call for a batch of images.
+#![tactic(auto)]
+
 ghost use Rattle.std.specs.Prelude.{◌≡◌, ◌+◌, ◌<◌, ◌≤◌, length};
 ghost use Rattle.base.specs.Buffers.{patch, starts_with};
 ghost use Rattle.batch.specs.Fields.{most_images, image_in};

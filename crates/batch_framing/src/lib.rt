@@ -1,4 +1,6 @@
 // The fields of a batch, one after the other: the first at fault, and the image in a field.
+#![tactic(auto)]
+
 ghost use Rattle.std.specs.Prelude.{◌≡◌, ◌≤◌, length};
 ghost use Rattle.image_framing.specs.Walk.{found_of};
 ghost use Rattle.batch.specs.Fields.{bad_field, first_fault, image_in};

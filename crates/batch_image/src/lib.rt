@@ -1,4 +1,6 @@
 // One image of a batch: what its check gives, and its part of the output.
+#![tactic(auto)]
+
 ghost use Rattle.std.specs.Prelude.{◌≡◌, ◌+◌, ◌≤◌, length};
 ghost use Rattle.base.specs.Buffers.{patch, starts_with};
 ghost use Rattle.oce_model.specs.Format.{text_tag, block_tag};

@@ -1,5 +1,7 @@
 // Which members of the groups of rule 5.4 may be reported: those whose bucket, by the bytes of the iri, has
 // several members and an external one.
+#![tactic(auto)]
+
 ghost use Rattle.std.specs.Prelude.{◌≡◌, ◌&&◌, ◌+◌, ◌%◌, ◌<◌, ◌≤◌, eqb, ltb, length, get_or, take, set};
 ghost use Rattle.base.specs.Lists.{tab, only};
 ghost use Rattle.oce_model.specs.Format.{text_tag};

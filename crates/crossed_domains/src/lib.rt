@@ -1,6 +1,8 @@
 // Rule 5.4: the combined domains of boundary inputs, `check_combined_input_domains`. The members that take
 // part, and whose bucket is crowded, are sorted by the bytes of their iris; a group is a run of neighbours
 // with equal bytes. One pass keeps of the open group what a diagnostic needs.
+#![tactic(auto)]
+
 ghost use Rattle.std.specs.Prelude.{◌≡◌, ◌||◌, ◌+◌, ◌<◌, ◌≤◌, length};
 ghost use Rattle.base.specs.Lists.{tab};
 ghost use Rattle.numbers.specs.Bytes.{short_range};
@@ -33,7 +35,7 @@ const FEW_MEMBERS: usize = 256;
 
 // The open group: what was counted before it, its first member, how many it has, whether one is external,
 // and what their ranges leave.
-#[derive(Drop)]
+#[derive(Clone, Copy)]
 pub struct Pass {
     pub counted: Counted,
     pub first: usize,

@@ -1,5 +1,7 @@
 // The members of the groups of rule 5.4, by one numbering: the connectors, and behind them the boundary
 // inputs.
+#![tactic(auto)]
+
 ghost use Rattle.std.specs.Prelude.{◌≡◌, ◌+◌, ◌<◌, ◌≤◌, length};
 ghost use Rattle.base.specs.Lists.{below};
 ghost use Rattle.numbers.specs.Bytes.{short_range};

@@ -1,5 +1,7 @@
 // Ranges: when one is crossed, and what is left of several. `Bounds::crossed`, `Bounds::intersect` and the
 // `try_fold` of `check_combined_input_domains`.
+#![tactic(auto)]
+
 ghost use Rattle.std.specs.Prelude.{◌≡◌, cond, ◌+◌, ◌<◌, ◌≤◌, length};
 ghost use Rattle.crossed_bounds.specs.Ranges.{crossed_ends, crossed_bounds, crossed, higher, lower, higher_integer, lower_integer, intersect, uncrossed, intersect_with, take_in, range_of};
 ghost use Rattle.oce_model.specs.Format.{longest_image, connector_attrs, attrs_length};

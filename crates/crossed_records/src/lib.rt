@@ -1,4 +1,6 @@
 // Rule 5, `check_crossed_bounds`: each record's own range, and then the combined domains.
+#![tactic(auto)]
+
 ghost use Rattle.std.specs.Prelude.{◌+◌, ◌<◌, ◌≤◌};
 ghost use Rattle.base.specs.Lists.{each, only};
 ghost use Rattle.oce_model.specs.Format.{text_tag, most_connectors, most_boundary_inputs, most_boundary_outputs};

@@ -1,4 +1,6 @@
 // Bytes and decimal numbers, put one behind the other into a lent buffer.
+#![tactic(auto)]
+
 ghost use Rattle.std.specs.Prelude.{[], ◌∷◌, ◌++◌, ◌+◌, ◌<◌, ◌≤◌, length};
 ghost use Rattle.decimal.specs.Decimal.{ten, digit, decimal, wide_decimal, most_digits, most_wide_digits, most_byte_digits};
 ghost use Rattle.decimal.specs.Appending.{Appended};

@@ -1,4 +1,6 @@
 // The lines that list an image's fields, put into a lent buffer: each field's offset, tag and length.
+#![tactic(auto)]
+
 ghost use Rattle.std.specs.Prelude.{◌+◌, ◌<◌, ◌≤◌, length};
 ghost use Rattle.numbers.specs.Bytes.{word_range};
 ghost use Rattle.decimal.specs.Appending.{Appended};
@@ -8,7 +10,7 @@ use decimal::{put_bytes, put_labelled, put_labelled_byte, put_number};
 use reader::{Found, step_from};
 
 // The offset of the next field to list, and how many bytes of lines stand in the buffer.
-#[derive(Drop)]
+#[derive(Clone, Copy)]
 pub struct Piece {
     pub next: usize,
     pub length: usize,

@@ -1,4 +1,6 @@
 // The filled image (FORMAT 17): the attributes of slots that stand in a table, written over those of the image.
+#![tactic(auto)]
+
 ghost use Rattle.std.specs.Prelude.{◌≡◌, ◌+◌, ◌*◌, ◌≤◌, ◌<◌, length, get_or};
 ghost use Rattle.base.specs.Buffers.{patch, starts_with};
 ghost use Rattle.oce_model.specs.Format.{attrs_length, longest_image};

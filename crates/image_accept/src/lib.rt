@@ -1,4 +1,6 @@
 // Every byte string is accepted, with its layout, or refused with the first refusal that applies.
+#![tactic(auto)]
+
 ghost use Rattle.std.specs.Prelude.{◌≡◌, ◌+◌, ◌<◌, ◌≤◌, length};
 ghost use Rattle.std.proofs.Math.Option.{none};
 ghost use Rattle.base.specs.Buffers.{starts_with};
@@ -19,7 +21,7 @@ use oce_model::{
 };
 
 // Where the records of a tag begin, and how many there are.
-#[derive(Drop)]
+#[derive(Clone, Copy)]
 pub struct Section {
     pub start: usize,
     pub count: usize,
@@ -27,7 +29,7 @@ pub struct Section {
 
 // The layout of an accepted image: the records of each tag, and the head's Integer defaults. A record of
 // a fixed size stands at its section's start plus its number times the size.
-#[derive(Drop)]
+#[derive(Clone, Copy)]
 pub struct Layout {
     pub texts: Section,
     pub blocks: Section,
@@ -41,14 +43,14 @@ pub struct Layout {
 }
 
 // What `accept` answers.
-#[derive(Drop)]
+#[derive(Clone, Copy)]
 pub enum Acceptance {
     Refused { number: u32, at: u32 },
     Accepted(Layout),
 }
 
 // Whether an image is turned away.
-#[derive(Drop)]
+#[derive(Clone, Copy)]
 enum Verdict {
     Away { number: u32, at: u32 },
     Fine,
@@ -57,7 +59,7 @@ enum Verdict {
 // ---- sections
 
 // A section that was passed, and the field behind it.
-#[derive(Drop)]
+#[derive(Clone, Copy)]
 struct Run {
     pub records: Section,
     pub next: Field,
@@ -115,7 +117,7 @@ fn table_section(s: &[u8], f: Field, tag: usize, table: &mut [usize]) -> Run
 }
 
 // The sections whose records have a fixed size.
-#[derive(Drop)]
+#[derive(Clone, Copy)]
 struct Fixed {
     pub connectors: Section,
     pub connections: Section,
@@ -220,7 +222,7 @@ fn lay_out(s: &[u8], texts: &mut [usize], blocks: &mut [usize]) -> Layout
 // ---- one pass for an image with nothing at fault
 
 // A section that was passed, with nothing at fault where fine, and the field behind it.
-#[derive(Drop)]
+#[derive(Clone, Copy)]
 struct Sifted {
     pub fine: bool,
     pub records: Section,
@@ -406,7 +408,7 @@ fn list_on(s: &[u8], before: Sifted, tag: usize, n: usize, table: &mut [usize]) 
 }
 
 // The sections whose records have a fixed size, with nothing at fault where fine.
-#[derive(Drop)]
+#[derive(Clone, Copy)]
 struct Rest {
     pub fine: bool,
     pub fixed: Fixed,
@@ -440,7 +442,7 @@ fn sift_fixed(s: &[u8], before: Sifted, n: usize) -> Rest
 }
 
 // What one pass finds: the layout, where nothing is at fault.
-#[derive(Drop)]
+#[derive(Clone, Copy)]
 struct Surveyed {
     pub fine: bool,
     pub layout: Layout,

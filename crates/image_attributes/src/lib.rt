@@ -1,4 +1,6 @@
 // Attributes, read from where they stand in an image.
+#![tactic(auto)]
+
 ghost use Rattle.std.specs.Prelude.{◌≡◌, ◌+◌, ◌<◌, ◌≤◌, length};
 ghost use Rattle.numbers.specs.Bytes.{byte_range};
 ghost use Rattle.oce_model.specs.Format.{longest_image, connector_attrs, attrs_length};

@@ -1,5 +1,7 @@
 // Whether the contents of a field are at fault: refusal 6 (head, connector, attributes) and refusal 8
 // (text numbers). Bytes past the image's end count as 0, as in the definitions.
+#![tactic(auto)]
+
 ghost use Rattle.std.specs.Prelude.{◌≡◌, ◌+◌, ◌<◌, ◌≤◌};
 ghost use Rattle.image_contents.specs.Marks.{not_of_integer, bad_marks, stray_part, straying, bad_text_number, missing, bad_type};
 ghost use Rattle.oce_model.specs.Format.{longest_image, connector_attrs};

@@ -1,5 +1,7 @@
 // Whether a field of an image is at fault under refusals 3 to 8. Bytes past the image's end count as 0,
 // as in the definitions.
+#![tactic(auto)]
+
 ghost use Rattle.std.specs.Prelude.{◌≡◌, not, ◌||◌, ◌+◌, ◌*◌, ◌<◌, ◌≤◌, eqb, ltb};
 ghost use Rattle.base.specs.Lists.{any};
 ghost use Rattle.numbers.specs.Bytes.{short_range};

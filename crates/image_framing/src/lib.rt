@@ -1,5 +1,7 @@
 // The fields of an image, one after the other: whether they end with the image, and the first that is at
 // fault under a refusal.
+#![tactic(auto)]
+
 ghost use Rattle.std.specs.Prelude.{◌≡◌, ◌<◌, ◌≤◌, ltb, length};
 ghost use Rattle.numbers.specs.Bytes.{byte_range, short_range};
 ghost use Rattle.oce_model.specs.Format.{longest_image};
@@ -12,14 +14,14 @@ use numbers::{at16, read16, wide};
 use oce_model::{FIELD_LENGTH_AT, Field, LEADING_BYTES};
 
 // The offset of a field at fault.
-#[derive(Drop)]
+#[derive(Clone, Copy)]
 pub enum Found {
     At(usize),
     Nothing,
 }
 
 // What framing finds: the field that runs past the image's end, or the first field with a bad tag.
-#[derive(Drop)]
+#[derive(Clone, Copy)]
 pub enum Framed {
     Cut(usize),
     Whole(Found),
@@ -40,7 +42,7 @@ fn ord_of(prev: usize, n: usize, t: usize) -> usize
 
 // What stands at an offset: a tag, the length of the contents, and whether all of it lies in the image. Bytes
 // past the end count as 0.
-#[derive(Drop)]
+#[derive(Clone, Copy)]
 pub struct Leading {
     pub tag: usize,
     pub len: usize,

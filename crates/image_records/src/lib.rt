@@ -1,5 +1,7 @@
 // The records of an accepted image, read by their numbers. Nothing here can fail: the layout says where
 // each record stands.
+#![tactic(auto)]
+
 ghost use Rattle.std.specs.Prelude.{◌≡◌, ◌+◌, ◌*◌, ◌<◌, ◌≤◌, length, get_or};
 ghost use Rattle.numbers.specs.Bytes.{short_range, word_range, le32};
 ghost use Rattle.oce_model.specs.Format.{longest_image, block_ports, port_length, most_ports, block_tag, connector_tag, connection_tag, external_input_tag, boundary_input_tag, boundary_output_tag, connector_size, connection_size, external_input_size, boundary_input_size, boundary_output_size, connector_attrs, attrs_length};

@@ -1,6 +1,8 @@
 // Whether a field that lies inside the image is at fault under any of refusals 4 to 8: the tests of faults
 // and contents, which are made there one refusal after the other, here in one go, over numbers that are
 // read without a test of the image's end.
+#![tactic(auto)]
+
 ghost use Rattle.std.specs.Prelude.{◌≡◌, ◌+◌, ◌<◌, ◌≤◌, length};
 ghost use Rattle.numbers.specs.Bytes.{le16};
 ghost use Rattle.oce_model.specs.Format.{longest_image, attrs_length, connector_size, boundary_input_attrs, leading_bytes, text_tag, block_tag, connector_tag, boundary_input_tag, boundary_output_tag};

@@ -1,4 +1,6 @@
 // Texts of an accepted image: their bytes, which of them are equal, and their order by bytes.
+#![tactic(auto)]
+
 ghost use Rattle.std.specs.Prelude.{◌≡◌, true, ◌+◌, ◌≤◌, ◌<◌, length, get_or, drop};
 ghost use Rattle.base.specs.Lists.{same};
 ghost use Rattle.oce_model.specs.Format.{longest_image, text_tag};

@@ -1,1 +1,3 @@
 // Demand 3: values that move along connections. No code.
+#![tactic(auto)]
+

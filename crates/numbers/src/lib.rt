@@ -1,4 +1,6 @@
 // Numbers in bytes, read and written, and what 64 bits stand for.
+#![tactic(auto)]
+
 ghost use Rattle.std.specs.Prelude.{◌≡◌, ◌+◌, ◌≤◌, ◌<◌, length};
 ghost use Rattle.std.specs.Float.Ieee.Scale.{finite};
 ghost use Rattle.base.specs.Buffers.{patch};

@@ -1,4 +1,6 @@
 // The checking calls for programs in C or Rust; include/oce.h is their header.
+#![tactic(auto)]
+
 ghost use Rattle.std.specs.Prelude.{◌≡◌, length};
 ghost use Rattle.outcome.specs.Answer.{answer, filled_after, report_after};
 ghost use Rattle.moved.specs.Moved.{Moved};
@@ -12,7 +14,7 @@ use outcome::Answer;
 
 // An answer as four numbers.
 #[repr(C)]
-#[derive(Drop)]
+#[derive(Clone, Copy)]
 pub struct OceAnswer {
     // the refusal's number; 0 where the image is checked
     pub refusal: u32,
@@ -59,7 +61,7 @@ pub extern "C" fn oce_check(image: &[u8], filled: &mut [u8], report: &mut [u8]) 
 
 // A batch's answer as three numbers.
 #[repr(C)]
-#[derive(Drop)]
+#[derive(Clone, Copy)]
 pub struct OceBatchAnswer {
     // the refusal's number; 0 where the output is written
     pub refusal: u64,

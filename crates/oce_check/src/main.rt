@@ -1,6 +1,8 @@
 // Checks a model image and prints its report: of standard input, or of the file that an argument names.
 // A second argument names a new file for the filled image, or is - for standard output. After --fields the fields of an image are listed, after --batch a batch of
 // images is checked.
+#![tactic(auto)]
+
 use base::part_of;
 use image_texts::same_bytes;
 use libc::{STDERR_FILENO, STDIN_FILENO, STDOUT_FILENO};

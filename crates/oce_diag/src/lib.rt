@@ -1,4 +1,6 @@
 // Diagnostics, as oce-diag has them, and how they are put into a report.
+#![tactic(auto)]
+
 ghost use Rattle.std.specs.Prelude.{◌≡◌, [], ◌∷◌, ◌+◌, ◌<◌, ◌≤◌};
 ghost use Rattle.base.specs.Lists.{only};
 ghost use Rattle.oce_diag.specs.Diagnostics.{connector_subject, block_subject, error, warning, errors, warnings};
@@ -12,14 +14,14 @@ use numbers::{BYTE_RANGE_U32, at32, byte_at};
 use oce_model::{BlockId, ConnectorId, LEADING_BYTES, NO_TEXT};
 
 // The Rust's `Severity`, less `Info`, which no rule gives.
-#[derive(Drop)]
+#[derive(Clone, Copy)]
 pub enum Severity {
     Error,
     Warning,
 }
 
 // The Rust's `DiagCode`, those that the rules give.
-#[derive(Drop)]
+#[derive(Clone, Copy)]
 pub enum DiagCode {
     MalformedDocument,
     DirectionMismatch,
@@ -32,7 +34,7 @@ pub enum DiagCode {
 }
 
 // What a diagnostic is about: nothing, a text by its number, a connector or a block by its id.
-#[derive(Drop)]
+#[derive(Clone, Copy)]
 pub enum Subject {
     Nothing,
     Text(u32),
@@ -41,7 +43,7 @@ pub enum Subject {
 }
 
 // One diagnostic of a report. Rule, detail and place stand for the Rust's message.
-#[derive(Drop)]
+#[derive(Clone, Copy)]
 pub struct Diagnostic {
     pub severity: Severity,
     pub code: DiagCode,
@@ -52,7 +54,7 @@ pub struct Diagnostic {
 }
 
 // How many errors and how many warnings were counted.
-#[derive(Drop)]
+#[derive(Clone, Copy)]
 pub struct Counted {
     pub errors: usize,
     pub warnings: usize,

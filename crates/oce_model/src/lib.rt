@@ -1,7 +1,9 @@
 // The records of a model, as oce-model has them, and the fields of an image.
+#![tactic(auto)]
+
 
 // How one byte string stands to another, as Rust's `Ordering`.
-#[derive(Drop)]
+#[derive(Clone, Copy)]
 pub enum Ordering {
     Less,
     Equal,
@@ -11,7 +13,7 @@ pub enum Ordering {
 // A field of an image: the offset of its tag, the tag, the length of its contents, the tag of the field
 // before (0 for the first), and how many fields with its tag stand right before it. Where tags don't
 // fall, those are all with its tag.
-#[derive(Drop)]
+#[derive(Clone, Copy)]
 pub struct Field {
     pub at: usize,
     pub tag: usize,
@@ -21,15 +23,15 @@ pub struct Field {
 }
 
 // The Rust's `BlockId` and `ConnectorId`: numbers of blocks and of connectors, kept apart.
-#[derive(Drop)]
+#[derive(Clone, Copy)]
 pub struct BlockId(pub u32);
 
-#[derive(Drop)]
+#[derive(Clone, Copy)]
 pub struct ConnectorId(pub u32);
 
 // What stands in front of a block's ports: its id, its instance text, and how many inputs and outputs it
 // has. The Rust's `BlockInstance` has the ports as well.
-#[derive(Drop)]
+#[derive(Clone, Copy)]
 pub struct BlockFront {
     pub id: BlockId,
     pub instance: usize,
@@ -39,7 +41,7 @@ pub struct BlockFront {
 
 // What stands in front of a connector's attributes, the Rust's `Connector` without them; value_type and
 // class are its `ValueType`.
-#[derive(Drop)]
+#[derive(Clone, Copy)]
 pub struct ConnectorFront {
     pub id: ConnectorId,
     pub block: BlockId,
@@ -50,14 +52,14 @@ pub struct ConnectorFront {
 }
 
 // What stands in front of a boundary output's attributes, the Rust's `BoundaryOutput` without them.
-#[derive(Drop)]
+#[derive(Clone, Copy)]
 pub struct BoundaryOutputFront {
     pub iri: usize,
     pub source: ConnectorId,
 }
 
 // The Rust's `RealAttrs`: marks says what is set, texts are numbers.
-#[derive(Drop)]
+#[derive(Clone, Copy)]
 pub struct RealAttrs {
     pub marks: usize,
     pub quantity: usize,
@@ -69,7 +71,7 @@ pub struct RealAttrs {
 }
 
 // The Rust's `IntAttrs`.
-#[derive(Drop)]
+#[derive(Clone, Copy)]
 pub struct IntAttrs {
     pub marks: usize,
     pub min: i64,
@@ -77,7 +79,7 @@ pub struct IntAttrs {
 }
 
 // The Rust's `Connection`.
-#[derive(Drop)]
+#[derive(Clone, Copy)]
 pub struct Connection {
     pub from: ConnectorId,
     pub to: ConnectorId,

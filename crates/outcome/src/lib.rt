@@ -1,8 +1,10 @@
 // What one checking call answers.
+#![tactic(auto)]
+
 
 // A refusal's number and offset (the bytes needed for 9 and 10), or how many errors and warnings the
 // report holds.
-#[derive(Drop)]
+#[derive(Clone, Copy)]
 pub enum Answer {
     Refused { number: u32, at: u32 },
     Checked { errors: u32, warnings: u32 },

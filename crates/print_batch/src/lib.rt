@@ -1,4 +1,6 @@
 // A batch of images checked, and its report printed, image by image.
+#![tactic(auto)]
+
 ghost use Rattle.std.specs.Prelude.{◌≡◌, ◌+◌, ◌*◌, ◌<◌, length};
 ghost use Rattle.numbers.specs.Bytes.{word_range};
 ghost use Rattle.oce_diag.specs.Encoding.{diagnostic_size};
@@ -135,7 +137,7 @@ pub fn print_batch(fd: i32, batch: &[u8], output: &mut [u8]) -> bool
 // ---- a batch that is read
 
 // How it ended: all of it printed; not read; longer than what is taken, nothing printed; not all written.
-#[derive(Drop)]
+#[derive(Clone, Copy)]
 pub enum Ending {
     Printed,
     Unreadable,

@@ -1,4 +1,6 @@
 // A model image checked, and its report printed in large pieces; or its fields listed.
+#![tactic(auto)]
+
 ghost use Rattle.std.specs.Prelude.{◌≡◌, true, ◌<◌, ◌≤◌, length};
 ghost use Rattle.numbers.specs.Bytes.{word_range};
 ghost use Rattle.oce_model.specs.Format.{text_tag, longest_image};
@@ -85,7 +87,7 @@ fn print_all<'a>(fd: i32, image: &'a [u8], report: &'a [u8], answer: Answer) -> 
 }
 
 // A check, and whether all of its report was printed.
-#[derive(Drop)]
+#[derive(Clone, Copy)]
 pub struct Outcome {
     pub checked: bool,
     pub printed: bool,
@@ -148,7 +150,7 @@ pub fn print_fields(fd: i32, image: &[u8]) -> bool
 }
 
 // What was read of a file, or that nothing could be.
-#[derive(Drop)]
+#[derive(Clone, Copy)]
 pub enum Input {
     Bytes(usize),
     Unreadable,

@@ -1,4 +1,6 @@
 // The lines of the printed report, put into a lent buffer.
+#![tactic(auto)]
+
 ghost use Rattle.std.specs.Prelude.{◌≡◌, ◌+◌, ◌<◌, ◌≤◌, length};
 ghost use Rattle.base.specs.Buffers.{starts_with};
 ghost use Rattle.numbers.specs.Bytes.{word_range};
@@ -21,7 +23,7 @@ use reader::{Found, Reader, next};
 use subject::{LEAST_SCRATCH, accepted_subject, write_label};
 
 // The next diagnostic to print, and how many bytes of lines stand in the buffer.
-#[derive(Drop)]
+#[derive(Clone, Copy)]
 pub struct Piece {
     pub next: usize,
     pub length: usize,

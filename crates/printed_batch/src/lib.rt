@@ -1,4 +1,6 @@
 // The lines that are printed for a batch, put into a lent buffer; and summaries read back from its output.
+#![tactic(auto)]
+
 ghost use Rattle.std.specs.Prelude.{◌≡◌, ◌++◌, ◌+◌, ◌<◌, ◌≤◌, length};
 ghost use Rattle.base.specs.Buffers.{starts_with};
 ghost use Rattle.numbers.specs.Bytes.{long_range, word_range};

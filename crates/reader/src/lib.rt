@@ -1,32 +1,34 @@
 // A reading place that carries the image with it, and goes on field by field.
+#![tactic(auto)]
+
 ghost use Rattle.std.specs.Prelude.{◌≡◌};
 ghost use Rattle.reader.specs.Reading.{found_at, after_at, step_at};
 
 use image_framing::leading_at;
 use oce_model::LEADING_BYTES;
 
-#[derive(Drop)]
+#[derive(Clone, Copy)]
 pub struct Reader<'a> {
     pub image: &'a [u8],
     pub at: usize,
 }
 
 // What stands at a place: a whole field, or none.
-#[derive(Drop)]
+#[derive(Clone, Copy)]
 pub enum Found {
     Field { tag: u8, len: u16 },
     End,
 }
 
 // What a reader found, and the reader behind it.
-#[derive(Drop)]
+#[derive(Clone, Copy)]
 pub struct Read<'a> {
     pub found: Found,
     pub rest: Reader<'a>,
 }
 
 // The same with the place alone.
-#[derive(Drop)]
+#[derive(Clone, Copy)]
 pub struct Step {
     pub found: Found,
     pub at: usize,

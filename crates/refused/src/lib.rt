@@ -1,1 +1,3 @@
 // Images that are turned away. No code.
+#![tactic(auto)]
+

@@ -1,6 +1,8 @@
 // Replays the oracle's stored answers (docs/STORED_ANSWERS.md): checks each image of the files that its
 // arguments name, and says how many are refused, and which of them not as the oracle has it: by refusal,
 // counts, a diagnostic, or the filled image. The last line sums up the files that should agree.
+#![tactic(auto)]
+
 use agreement::{Agreement, compare};
 use base::part_of;
 use image_texts::same_bytes;
@@ -15,7 +17,7 @@ const LONGEST_FILE: usize = 131084;
 const WRONG_LENGTH: usize = 5;
 
 // Of one file or of several.
-#[derive(Drop)]
+#[derive(Clone, Copy)]
 struct Sum {
     pub images: u64,
     pub refused: u64,
@@ -25,7 +27,7 @@ struct Sum {
 }
 
 // Where the next record begins, and what the records before it gave.
-#[derive(Drop)]
+#[derive(Clone, Copy)]
 struct Turn {
     pub at: usize,
     pub sum: Sum,

@@ -1,4 +1,6 @@
 // All rules in their order (FORMAT 7), over one report.
+#![tactic(auto)]
+
 ghost use Rattle.std.specs.Prelude.{◌++◌, ◌+◌, ◌*◌, ◌≤◌};
 ghost use Rattle.oce_model.specs.Format.{text_tag, block_tag};
 ghost use Rattle.oce_model.specs.Model.{model_of};

@@ -1,5 +1,7 @@
 // Files of stored answers, as docs/STORED_ANSWERS.md has them: their start, and their records with all
 // parts by value. Every byte string can be read; bytes past the end count as 0.
+#![tactic(auto)]
+
 ghost use Rattle.std.specs.Prelude.{◌≡◌, ◌+◌, ◌≤◌, length};
 ghost use Rattle.numbers.specs.Bytes.{le32};
 ghost use Rattle.stored.specs.Files.{is_stored, count_at, answer_length, answer_at, record_at};
@@ -23,7 +25,7 @@ const LEAST_RECORD: usize = 28;
 const LEAST_REST: usize = 24;
 
 // What the oracle says of an image.
-#[derive(Drop)]
+#[derive(Clone, Copy)]
 pub struct Answer {
     // The refusal's number and offset, both 0 if the image is accepted.
     pub number: usize,
@@ -38,7 +40,7 @@ pub struct Answer {
 }
 
 // An image with what the oracle says of it.
-#[derive(Drop)]
+#[derive(Clone, Copy)]
 pub struct Record {
     // Where the image begins, and its length.
     pub image: usize,
@@ -48,7 +50,7 @@ pub struct Record {
     pub end: usize,
 }
 
-#[derive(Drop)]
+#[derive(Clone, Copy)]
 pub enum Reading {
     Whole(Record),
     // No whole record begins here.

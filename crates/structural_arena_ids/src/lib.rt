@@ -1,4 +1,6 @@
 // Rule 1, the Rust's `check_arena_ids`: ids are numbers of records, and what they refer to exists.
+#![tactic(auto)]
+
 ghost use Rattle.std.specs.Prelude.{◌≡◌, ◌+◌, ◌*◌, ◌<◌, ◌≤◌, length, ◌++◌};
 ghost use Rattle.base.specs.Lists.{each};
 ghost use Rattle.oce_model.specs.Format.{longest_image, most_ports, port_length, block_ports, block_tag, most_blocks, most_connectors};

@@ -1,4 +1,6 @@
 // Rule 3, the Rust's `check_single_assignment`: each input is driven by one connection, or is external.
+#![tactic(auto)]
+
 ghost use Rattle.std.specs.Prelude.{◌≡◌, ◌+◌, ◌*◌, ◌<◌, ◌≤◌, length};
 ghost use Rattle.oce_model.specs.Format.{most_connectors};
 ghost use Rattle.oce_model.specs.Model.{model_of, connector};

@@ -1,5 +1,7 @@
 // In-degrees of all connectors, the Rust's `in_degrees`: the connections are read once, lent a portion at
 // a time as a list of pairs, and counted in one pass.
+#![tactic(auto)]
+
 ghost use Rattle.std.specs.Prelude.{◌≡◌, ◌≤◌, ◌+◌, ◌<◌, length};
 ghost use Rattle.structural_degrees.specs.Counted.{portion, counted, Spare};
 ghost use Rattle.oce_model.specs.Model.{model_of};

@@ -1,6 +1,8 @@
 // The external inputs in a column, so that an id is looked up in few steps: small ids each have an entry,
 // the others stand sorted behind these. A column of 2 * h + 1 entries serves h external inputs: an entry for
 // each id below h, room for h others, and how many others there are.
+#![tactic(auto)]
+
 ghost use Rattle.std.specs.Prelude.{◌≡◌, ◌+◌, ◌<◌, ◌≤◌, length, get_or};
 ghost use Rattle.oce_model.specs.Format.{most_external_inputs};
 ghost use Rattle.oce_model.specs.Model.{model_of};

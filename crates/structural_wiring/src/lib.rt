@@ -1,5 +1,7 @@
 // Rules 2 and 4, the Rust's `check_boundary_outputs` and `check_connections`: the connectors that a
 // boundary output or a connection refers to exist, with the directions and types that it asks for.
+#![tactic(auto)]
+
 ghost use Rattle.std.specs.Prelude.{◌≡◌, ◌&&◌, ◌+◌, ◌*◌, ◌<◌, ◌≤◌, eqb};
 ghost use Rattle.oce_model.specs.Format.{most_boundary_outputs, most_connections};
 ghost use Rattle.oce_model.specs.Model.{model_of, connector, connection, boundary_output};

@@ -1,4 +1,6 @@
 // A subject's text, as a part of the image or of the caller's scratch.
+#![tactic(auto)]
+
 ghost use Rattle.std.specs.Prelude.{◌≡◌, ◌+◌, ◌≤◌, length, take};
 ghost use Rattle.base.specs.Buffers.{starts_with};
 ghost use Rattle.oce_model.specs.Format.{text_tag};

@@ -1,4 +1,6 @@
 // One cluster of rule 6: what 6.1 to 6.7 report, and what the first six of them fill (FORMAT 16).
+#![tactic(auto)]
+
 ghost use Rattle.std.specs.Prelude.{◌≡◌, [], ◌∷◌, ◌+◌, ◌≤◌, ◌<◌, get_or};
 ghost use Rattle.oce_model.specs.Model.{model_of, connector};
 ghost use Rattle.image_accept.specs.Layout.{Laid};

@@ -1,5 +1,7 @@
 // Rule 6 (FORMAT 16), the Rust's `unify_clusters`: the slots of an image read, all roots in turn, and where
 // the list then holds no error, the test of every root's range.
+#![tactic(auto)]
+
 ghost use Rattle.std.specs.Prelude.{◌+◌, ◌≤◌, ◌<◌};
 ghost use Rattle.oce_model.specs.Model.{model_of};
 ghost use Rattle.oce_diag.specs.Putting.{Countable, Adds};

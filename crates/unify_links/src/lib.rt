@@ -1,4 +1,6 @@
 // The clusters of rule 6 (FORMAT 15), from lists of links: the connections, and behind them the boundary outputs.
+#![tactic(auto)]
+
 ghost use Rattle.std.specs.Prelude.{◌≡◌, ◌+◌, ◌-◌, ◌≤◌, ◌<◌, length, get_or, set};
 ghost use Rattle.oce_model.specs.Model.{model_of, connection, boundary_output, connector_count};
 ghost use Rattle.image_accept.specs.Layout.{Laid};
@@ -11,7 +13,7 @@ use image_records::{boundary_output, boundary_output_attrs, connection, connecto
 use oce_model::{ConnectorId, DIR_IN};
 
 // The root of a link, if it has one.
-#[derive(Drop)]
+#[derive(Clone, Copy)]
 pub enum Root {
     None,
     Of(ConnectorId),

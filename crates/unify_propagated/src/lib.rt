@@ -1,4 +1,6 @@
 // 6.8: roots whose range is crossed after all roots are filled (FORMAT 16).
+#![tactic(auto)]
+
 ghost use Rattle.std.specs.Prelude.{◌≡◌, [], ◌∷◌, ◌+◌, ◌≤◌, ◌<◌};
 ghost use Rattle.oce_model.specs.Model.{model_of, connector};
 ghost use Rattle.image_accept.specs.Layout.{Laid};

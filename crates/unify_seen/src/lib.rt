@@ -1,5 +1,7 @@
 // What the members of a cluster declare, by the marks of all of a kind: a detail that doesn't show in those
 // of its kind has nothing to settle (FORMAT 16).
+#![tactic(auto)]
+
 ghost use Rattle.std.specs.Prelude.{◌≡◌, ◌&&◌, eqb, length};
 ghost use Rattle.unify_slots.specs.Table.{view, Room, Inside};
 ghost use Rattle.unify_seen.specs.Seen.{TakenIn, Sees, shows};
@@ -9,7 +11,7 @@ use unify::Detail;
 use unify_slots::{bit_of, is_marked, kind_at, kind_of, marks_at};
 
 // The marks of all Real members together, and those of all Integer members.
-#[derive(Drop)]
+#[derive(Clone, Copy)]
 pub struct Seen {
     pub real: u64,
     pub integer: u64,

@@ -1,5 +1,7 @@
 // One detail of rule 6 over the members of one cluster (FORMAT 16): find the first declared value, ask
 // whether all agree with it, fill.
+#![tactic(auto)]
+
 ghost use Rattle.std.specs.Prelude.{◌≡◌, ◌+◌, ◌≤◌, ◌<◌, length, get_or, drop};
 ghost use Rattle.base.specs.Lists.{all};
 ghost use Rattle.oce_model.specs.Format.{text_tag};
@@ -16,7 +18,7 @@ use unify::Detail;
 use unify_slots::{declared_at, is_text, put_slot};
 
 // The first member that declares something, and what it declares.
-#[derive(Drop)]
+#[derive(Clone, Copy)]
 pub struct First {
     pub at: usize,
     pub value: u64,

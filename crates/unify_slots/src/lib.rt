@@ -1,5 +1,7 @@
 // The slots of rule 6 (FORMAT 15) in one table: eight places a slot, six numbers, its kind and its marks.
 // And what the table of FORMAT 16 says of each detail.
+#![tactic(auto)]
+
 ghost use Rattle.std.specs.Prelude.{◌≡◌, false, ◌+◌, ◌^◌, ◌≤◌, ◌<◌, length};
 ghost use Rattle.numbers.specs.Bytes.{bit};
 ghost use Rattle.oce_model.specs.Format.{longest_image, connector_attrs, attrs_length};
@@ -31,7 +33,7 @@ pub const KIND_PLACE: usize = 6;
 pub const MARKS_PLACE: usize = 7;
 
 // What a slot declares for a detail.
-#[derive(Drop)]
+#[derive(Clone, Copy)]
 pub struct Given {
     pub set: bool,
     pub value: u64,
