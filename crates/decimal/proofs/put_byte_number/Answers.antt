@@ -8,8 +8,7 @@ use Rattle.decimal.specs.Decimal.{decimal, wide_decimal, most_byte_digits}
 use Rattle.decimal.specs.Appending.{Appended}
 use Rattle.decimal.proofs.Decimal.{decimal-byte, decimal-wide}
 use Rattle.decimal.proofs.Appending.{appended-as}
-use Rattle.decimal.proofs.put_byte_number.Statement.{statement}
-use Rattle.decimal.proofs.put_byte_number.Tie as tie
+use Rattle.decimal.proofs.put_byte_number.Goals as goal
 
 room : (b : List ℕ) (at n : ℕ) → at + most_byte_digits ≤ length b → n < 256 → at + length (wide_decimal n) ≤ length b
 room b at n h l = rw (decimal-wide n (omega arith)) (omega (arith, decimal-byte n l))
@@ -21,10 +20,8 @@ module _ {b : List ℕ} {at n : ℕ} {b' : List ℕ} {r : ℕ} (v : Appended b a
   near : r ≤ at + most_byte_digits
   near = omega (arith, narrow.behind, decimal-byte n l)
 
-pub put-byte-number-spec : {M : Type 1} → statement M
-put-byte-number-spec =
-    tie.close
-    (tie.spec
-    (λ c κs. search (room, rules))
-    (λ c. search rules)
-    (λ c. search (narrow, near, rules)))
+pub put_digits-requires : goal.put_digits-requires
+put_digits-requires c = search (room, rules)
+
+pub returns : goal.returns
+returns c = search (narrow, near, rules)

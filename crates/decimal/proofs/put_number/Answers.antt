@@ -8,8 +8,7 @@ use Rattle.decimal.specs.Decimal.{decimal, wide_decimal, most_digits}
 use Rattle.decimal.specs.Appending.{Appended}
 use Rattle.decimal.proofs.Decimal.{decimal-few, decimal-wide}
 use Rattle.decimal.proofs.Appending.{appended-as}
-use Rattle.decimal.proofs.put_number.Statement.{statement}
-use Rattle.decimal.proofs.put_number.Tie as tie
+use Rattle.decimal.proofs.put_number.Goals as goal
 
 room : (b : List ℕ) (at n : ℕ) → at + most_digits ≤ length b → n < 4294967296 → at + length (wide_decimal n) ≤ length b
 room b at n h l = rw (decimal-wide n l) (omega (arith, decimal-few n))
@@ -21,10 +20,8 @@ module _ {b : List ℕ} {at n : ℕ} {b' : List ℕ} {r : ℕ} (v : Appended b a
   near : r ≤ at + most_digits
   near = omega (arith, narrow.behind, decimal-few n)
 
-pub put-number-spec : {M : Type 1} → statement M
-put-number-spec =
-    tie.close
-    (tie.spec
-    (λ c κs. search (room, rules))
-    (λ c. search rules)
-    (λ c. search (narrow, near, rules)))
+pub put_digits-requires : goal.put_digits-requires
+put_digits-requires c = search (room, rules)
+
+pub returns : goal.returns
+returns c = search (narrow, near, rules)
