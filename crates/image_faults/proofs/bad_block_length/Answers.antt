@@ -9,19 +9,12 @@ use Rattle.oce_model.specs.Format.{block_length, port_length, most_ports}
 use Rattle.oce_model.specs.Model.{input_count_at, output_count_at}
 use Rattle.oce_model.specs.Refusals.{bad_block_length}
 use Rattle.oce_model.specs.declared.Field.{Field}
-use Rattle.image_faults.proofs.bad_block_length.Statement.{statement}
-use Rattle.image_faults.proofs.bad_block_length.Tie as tie
+use Rattle.image_faults.proofs.bad_block_length.Goals as goal
 
 ports-read : (s : List ℕ) (f : Field) (i o : ℕ) (r : Bool) → i ≡ input_count_at s f.at → o ≡ output_count_at s f.at
     → r ≡ (not (eqb f.len (block_length + port_length * (i + o))) || ltb most_ports i || ltb most_ports o) → r ≡ bad_block_length s f
 unfolding bad_block_length
 ports-read s f i o r I O e = e ∙ rw (I, O)
 
-pub bad-block-length-spec : {M : Type 1} → statement M
-bad-block-length-spec =
-    tie.close
-    (tie.spec
-    (λ c κs. search rules)
-    (λ c κs. search rules)
-    (λ c κs. search rules)
-    (λ c. search (ports-read, rules)))
+pub returns : goal.returns
+returns c = search (ports-read, rules)

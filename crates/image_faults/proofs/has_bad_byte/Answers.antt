@@ -10,21 +10,8 @@ use lib.Seq.{drop-cons}
 use borrow.Author.Rules.{rules}
 use Rattle.base.specs.Lists.{any}
 use Rattle.oce_model.specs.Texts.{is_text_byte}
-use Rattle.image_faults.proofs.has_bad_byte.Statement.{statement}
-use Rattle.image_faults.proofs.has_bad_byte.Tie as tie
-
-abbrev has_bad : List ℕ → Bool
-has_bad bytes = any (λ b. not (is_text_byte b)) bytes
-
-record Left (bytes : List ℕ) (i : ℕ) : Type 0 where
-  within : i ≤ length bytes
-  left : has_bad bytes ≡ has_bad (drop i bytes)
-
-abbrev invariant-loop : tie.invariant-loop
-invariant-loop bytes i₀ i = Left bytes i
-
-abbrev decreases-loop : tie.decreases-loop
-decreases-loop bytes i₀ i = length bytes - i
+use Rattle.image_faults.proofs.has_bad_byte.Invariants.{Left, has_bad}
+use Rattle.image_faults.proofs.has_bad_byte.Goals as goal
 
 all_left : (bytes : List ℕ) → Left bytes 0
 all_left bytes = record { within = omega arith; left = refl }
@@ -48,18 +35,29 @@ module _ {bytes : List ℕ} {i : ℕ} (v : Left bytes i) where
 
 ruleset mine = (all_left, turn, found, none, rules)
 
-pub has-bad-byte-spec : {M : Type 1} → statement M
-has-bad-byte-spec =
-    tie.close
-    (tie.spec
-    invariant-loop
-    decreases-loop
-    (λ c. search mine)
-    (λ c. search mine)
-    (λ c κs. search mine)
-    (λ c κs. search mine)
-    (λ c. search mine)
-    (λ c. search mine)
-    (λ c. search mine)
-    (λ c. search mine)
-    (λ c. search mine))
+pub loop-i-init : goal.loop-i-init
+loop-i-init c = search mine
+
+pub bounds-bytes-i : goal.bounds-bytes-i
+bounds-bytes-i c = search mine
+
+pub wide-requires : goal.wide-requires
+wide-requires c = search mine
+
+pub is_text_byte-requires : goal.is_text_byte-requires
+is_text_byte-requires c = search mine
+
+pub returns-then-not-is_text_byte : goal.returns-then-not-is_text_byte
+returns-then-not-is_text_byte c = search mine
+
+pub overflow_add-i : goal.overflow_add-i
+overflow_add-i c = search mine
+
+pub loop-i-smaller : goal.loop-i-smaller
+loop-i-smaller c = search mine
+
+pub loop-i-preserved : goal.loop-i-preserved
+loop-i-preserved c = search mine
+
+pub returns : goal.returns
+returns c = search mine

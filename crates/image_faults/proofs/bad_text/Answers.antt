@@ -8,19 +8,23 @@ use Rattle.base.specs.Lists.{any}
 use Rattle.image_contents.proofs.Tests.{tests}
 use Rattle.oce_model.specs.Texts.{text_of}
 use Rattle.oce_model.specs.Refusals.{bad_text}
-use Rattle.image_faults.proofs.bad_text.Statement.{statement}
-use Rattle.image_faults.proofs.bad_text.Tie as tie
+use Rattle.image_faults.proofs.bad_text.Goals as goal
 
 of_part : (p : ℕ → Bool) (xs ys : List ℕ) (r : Bool) → r ≡ any p xs → xs ≡ ys → r ≡ any p ys
 of_part p xs ys r e f = e ∙ ap (any p) f
 
-pub bad-text-spec : {M : Type 1} → statement M
+pub returns-then-f-ne-TEXT_TAG : goal.returns-then-f-ne-TEXT_TAG
 unfolding bad_text text_of
-bad-text-spec =
-    tie.close
-    (tie.spec
-    (λ c. search (of_part, tests))
-    (λ c. search rules)
-    (λ c κs. search rules)
-    (λ c κs. search rules)
-    (λ c. search (of_part, tests)))
+returns-then-f-ne-TEXT_TAG c = search (of_part, tests)
+
+pub part_of-requires : goal.part_of-requires
+unfolding bad_text text_of
+part_of-requires c = search rules
+
+pub has_bad_byte-requires : goal.has_bad_byte-requires
+unfolding bad_text text_of
+has_bad_byte-requires c = search rules
+
+pub returns : goal.returns
+unfolding bad_text text_of
+returns c = search (of_part, tests)
