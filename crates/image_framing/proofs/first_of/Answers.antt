@@ -8,8 +8,7 @@ use Rattle.oce_model.specs.declared.Field.{Field}
 use Rattle.image_framing.specs.declared.Found.{Found}
 use Rattle.image_framing.specs.declared.Found.TheVariants.{At, Nothing}
 use Rattle.image_framing.specs.Walk.{first_of}
-use Rattle.image_framing.proofs.first_of.Statement.{statement}
-use Rattle.image_framing.proofs.first_of.Tie as tie
+use Rattle.image_framing.proofs.first_of.Goals as goal
 
 module _ (bad : Found) (f : Field) where
   kept : {at : ℕ} → bad ≡ At at → At at ≡ first_of bad f
@@ -25,13 +24,11 @@ module _ (bad : Found) (f : Field) where
     unfolding first_of
     fine e h = sym (rw (e, ← t, h))
 
-pub first-of-spec : {M : Type 1} → statement M
-first-of-spec =
-    tie.close
-    (tie.spec
-    (λ c. search rules)
-    (λ c. search rules)
-    (λ c κs. search rules)
-    (λ c. search (here, rules))
-    (λ c. search (kept, rules))
-    (λ c. search (fine, rules)))
+pub returns-then-bad_tag : goal.returns-then-bad_tag
+returns-then-bad_tag c = search (here, rules)
+
+pub returns-in-At : goal.returns-in-At
+returns-in-At c = search (kept, rules)
+
+pub returns-else-bad_tag : goal.returns-else-bad_tag
+returns-else-bad_tag c = search (fine, rules)

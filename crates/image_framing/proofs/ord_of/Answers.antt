@@ -5,8 +5,7 @@ use mathlib.Core.Path.{◌≡◌, sym}
 use borrow.Author.Rules.{rules}
 use borrow.Author.Tests.{eq-eqb, ne_eqb}
 use Rattle.oce_model.specs.Image.{ord_of}
-use Rattle.image_framing.proofs.ord_of.Statement.{statement}
-use Rattle.image_framing.proofs.ord_of.Tie as tie
+use Rattle.image_framing.proofs.ord_of.Goals as goal
 
 module _ (prev n t : ℕ) where
   same : prev ≡ t → n ≡ ord_of prev n t
@@ -15,5 +14,8 @@ module _ (prev n t : ℕ) where
   other : prev ≢ t → 0 ≡ ord_of prev n t
   other e = sym (rw (ne_eqb prev t e))
 
-pub ord-of-spec : {M : Type 1} → statement M
-ord-of-spec = tie.close (tie.spec (λ c. search (same, rules)) (λ c. search (other, rules)))
+pub returns-then-prev-t : goal.returns-then-prev-t
+returns-then-prev-t c = search (same, rules)
+
+pub returns : goal.returns
+returns c = search (other, rules)

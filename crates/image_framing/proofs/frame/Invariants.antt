@@ -1,0 +1,13 @@
+-- `image_framing::frame` meets its contract: what is found is what was found before, then what the rest holds.
+use Prim.Native.Nat.{◌-◌}
+use lib.ListN.{length}
+use borrow.Author.Rules.{rules}
+use Rattle.image_framing.proofs.Finds.{Framing, framing-start, framing-turn, framing-cut, framing-whole}
+use Rattle.image_framing.proofs.Walks.{past_end, within_end, walk-less}
+use Rattle.image_framing.proofs.frame.Given as goal
+
+abbrev pub invariant-loop-f : goal.invariant-loop-f
+invariant-loop-f l = Framing l.s l.bad l.f
+
+abbrev pub decreases-loop-f : goal.decreases-loop-f
+decreases-loop-f l = length l.s - l.f.at
