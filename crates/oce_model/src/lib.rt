@@ -1,7 +1,6 @@
 // The records of a model, as oce-model has them, and the fields of an image.
 #![tactic(auto)]
 
-
 // How one byte string stands to another, as Rust's `Ordering`.
 #[derive(Clone, Copy)]
 pub enum Ordering {
