@@ -10,18 +10,14 @@ use Rattle.image_accept.specs.Sections.{PassedSection}
 use Rattle.image_accept.specs.declared.Run.{Run}
 use Rattle.image_accept.specs.declared.Section.{Section}
 use Rattle.image_accept.proofs.Runs.{begins-first}
-use Rattle.image_accept.proofs.text_count.Statement.{statement}
-use Rattle.image_accept.proofs.text_count.Tie as tie
+use Rattle.image_accept.proofs.text_count.Goals as goal
 
 counted : {t : ℕ} {s : List ℕ} {r : Run} → PassedSection t s r → r.records.count ≡ length (of_tag t (fields s))
 unfolding section_of
 counted p = ap (λ (r : Section). r.count) p.records
 
-pub text-count-spec : {M : Type 1} → statement M
-text-count-spec =
-    tie.close
-    (tie.spec
-    (λ c κs. search rules)
-    (λ c κs. search (begins-first, rules))
-    (λ c κs. search rules)
-    (λ c. search (counted, rules)))
+pub pass_section-head-requires : goal.pass_section-head-requires
+pass_section-head-requires c = search (begins-first, rules)
+
+pub returns : goal.returns
+returns c = search (counted, rules)

@@ -16,8 +16,7 @@ use Rattle.image_accept.specs.declared.Layout.{Layout}
 use Rattle.image_accept.specs.declared.Run.{Run}
 use Rattle.image_accept.proofs.Rooms.{accepted-tagged, accepted-room}
 use Rattle.image_accept.proofs.Runs.{begins-first}
-use Rattle.image_accept.proofs.lay_out.Statement.{statement}
-use Rattle.image_accept.proofs.lay_out.Tie as tie
+use Rattle.image_accept.proofs.lay_out.Goals as goal
 
 parts : {s : List ℕ} {a b : Run} {r : Fixed} {x y : ℕ} {lo hi : ℤ} → PassedSection text_tag s a → PassedSection block_tag s b → r ≡ fixed_of s
     → x ≡ le64 s 7 → lo ≡ signed64 x → to_z w64 (of_z w64 lo) ≡ lo → y ≡ le64 s 15 → hi ≡ signed64 y → to_z w64 (of_z w64 hi) ≡ hi
@@ -35,19 +34,14 @@ parts : {s : List ℕ} {a b : Run} {r : Fixed} {x y : ℕ} {lo hi : ℤ} → Pas
 unfolding layout_of fixed_of model_of
 parts a b r x lo l y hi h = rw (l, h, a.records, b.records, r, lo, x, hi, y)
 
-pub lay-out-spec : {M : Type 1} → statement M
-lay-out-spec =
-    tie.close
-    (tie.spec
-    (λ c κs. search rules)
-    (λ c κs. search (begins-first, accepted-tagged, rules))
-    (λ c κs. search (accepted-room, rules))
-    (λ c κs. search (accepted-room, rules))
-    (λ c κs. search rules)
-    (λ c κs. search rules)
-    (λ c κs. search rules)
-    (λ c κs. search rules)
-    (λ c κs. search rules)
-    (λ c. search rules)
-    (λ c. search rules)
-    (λ c. search (parts, rules)))
+pub pass_section-head-requires : goal.pass_section-head-requires
+pass_section-head-requires c = search (begins-first, accepted-tagged, rules)
+
+pub table_section-texts-requires : goal.table_section-texts-requires
+table_section-texts-requires c = search (accepted-room, rules)
+
+pub table_section-blocks-requires : goal.table_section-blocks-requires
+table_section-blocks-requires c = search (accepted-room, rules)
+
+pub returns : goal.returns
+returns c = search (parts, rules)

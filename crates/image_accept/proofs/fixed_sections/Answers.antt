@@ -7,21 +7,12 @@ use Rattle.oce_model.specs.Format.{connector_tag, connection_tag, external_input
 use Rattle.image_accept.specs.Sections.{PassedSection, fixed_of}
 use Rattle.image_accept.specs.declared.Fixed.{Fixed}
 use Rattle.image_accept.specs.declared.Run.{Run}
-use Rattle.image_accept.proofs.fixed_sections.Statement.{statement}
-use Rattle.image_accept.proofs.fixed_sections.Tie as tie
+use Rattle.image_accept.proofs.fixed_sections.Goals as goal
 
 all : {s : List ℕ} {a b c d e : Run} → PassedSection connector_tag s a → PassedSection connection_tag s b → PassedSection external_input_tag s c → PassedSection boundary_input_tag s d → PassedSection boundary_output_tag s e
     → ◌≡◌ {A = Fixed} (record { connectors = a.records; connections = b.records; externals = c.records; inputs = d.records; outputs = e.records }) (fixed_of s)
 unfolding fixed_of
 all a b c d e = rw (a.records, b.records, c.records, d.records, e.records)
 
-pub fixed-sections-spec : {M : Type 1} → statement M
-fixed-sections-spec =
-    tie.close
-    (tie.spec
-    (λ c κs. search rules)
-    (λ c κs. search rules)
-    (λ c κs. search rules)
-    (λ c κs. search rules)
-    (λ c κs. search rules)
-    (λ c. search (all, rules)))
+pub returns : goal.returns
+returns c = search (all, rules)
