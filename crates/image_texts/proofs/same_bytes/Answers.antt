@@ -8,22 +8,20 @@ use Rattle.oce_model.specs.Texts.{order, is_equal}
 use Rattle.oce_model.specs.declared.Ordering.{Ordering}
 use Rattle.oce_model.proofs.Order.{equal-same}
 use Rattle.image_texts.proofs.Bytewise.{same_length}
-use Rattle.image_texts.proofs.same_bytes.Statement.{statement}
-use Rattle.image_texts.proofs.same_bytes.Tie as tie
+use Rattle.image_texts.proofs.same_bytes.Goals as goal
 
 -- the order was found to be o
 told : (a b : List ℕ) {r o : Ordering} → r ≡ o → r ≡ order a b → is_equal o ≡ same a b
 told a b e f = ap is_equal (sym e ∙ f) ∙ equal-same a b
 
-pub same-bytes-spec : {M : Type 1} → statement M
-same-bytes-spec =
-    tie.close
-    (tie.spec
-    (λ c. sym (same_length _ _ c.if1.true))
-    (λ c κs. search rules)
-    (λ c. search rules)
-    (λ c. search rules)
-    (λ c. search rules)
-    (λ c. told _ _ c.enum_told.given.1 c.before.before.order-of.ensures)
-    (λ c. told _ _ c.enum-told2.given.1 c.before.before.order-of.ensures)
-    (λ c. told _ _ c.enum-told3.given.1 c.before.before.order-of.ensures))
+pub returns-then-a-b : goal.returns-then-a-b
+returns-then-a-b c = sym (same_length _ _ c.if-a-b.true)
+
+pub returns-in-Less : goal.returns-in-Less
+returns-in-Less c = told _ _ c.enum_told-1.given.1 c.order_of.ensures
+
+pub returns-in-Equal : goal.returns-in-Equal
+returns-in-Equal c = told _ _ c.enum_told-in-Equal-1.given.1 c.order_of.ensures
+
+pub returns-in-Greater : goal.returns-in-Greater
+returns-in-Greater c = told _ _ c.enum_told-in-Greater-1.given.1 c.order_of.ensures
