@@ -11,17 +11,17 @@ use Rattle.image_texts.proofs.Bytewise.{same_length}
 use Rattle.image_texts.proofs.same_bytes.Goals as goal
 
 -- the order was found to be o
-told : (a b : List ℕ) {r o : Ordering} → r ≡ o → r ≡ order a b → is_equal o ≡ same a b
-told a b e f = ap is_equal (sym e ∙ f) ∙ equal-same a b
+told : (a b : List ℕ) {o : Ordering} → o ≡ order a b → is_equal o ≡ same a b
+told a b f = ap is_equal f ∙ equal-same a b
 
 pub returns-then-a-b : goal.returns-then-a-b
 returns-then-a-b c = sym (same_length _ _ c.if-a-b.true)
 
 pub returns-in-Less : goal.returns-in-Less
-returns-in-Less c = told _ _ c.enum_told-1.given.1 c.order_of.ensures
+returns-in-Less c = told _ _ c.in-Less.ensures
 
 pub returns-in-Equal : goal.returns-in-Equal
-returns-in-Equal c = told _ _ c.enum_told-in-Equal-1.given.1 c.order_of.ensures
+returns-in-Equal c = told _ _ c.in-Equal.ensures
 
 pub returns-in-Greater : goal.returns-in-Greater
-returns-in-Greater c = told _ _ c.enum_told-in-Greater-1.given.1 c.order_of.ensures
+returns-in-Greater c = told _ _ c.in-Greater.ensures
