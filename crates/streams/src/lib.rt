@@ -1,0 +1,113 @@
+// All of a buffer written or read, files whose names are bytes, and a line that says what failed. Nothing is allocated.
+#![tactic(auto)]
+
+ghost use Rattle.std.specs.Prelude.{◌≡◌, true, ◌≤◌, length, take};
+ghost use Rattle.std.specs.Io.KnownBytes.{Appends, Consumes};
+ghost use Rattle.streams.specs.Front.{AppendsFront};
+
+use base::part_of;
+use std::fs::{File, Files, OpenOptions};
+use std::io::{Error, Read, Write};
+use std::{fs, io};
+
+// ---- bytes
+
+// Writes all of the bytes and returns true, or stops at the first write that takes nothing or fails and
+// returns false, when some of them may have been written. For no bytes it makes no call.
+pub fn write_all<W: Write>(to: &mut W, bytes: &[u8]) -> bool
+    ensures all { result ≡ true → Appends (W.contents to.old) (W.contents to.new) bytes.now }
+    ensures some { AppendsFront (W.contents to.old) (W.contents to.new) bytes.now }
+{
+    let mut done = 0;
+    while done < bytes.len() {
+        match to.write(&bytes[done..]) {
+            Ok(0) => return false,
+            Ok(n) => done += n,
+            Err(_) => return false,
+        }
+    }
+    true
+}
+
+// Reads until the buffer is full, the input ends or a read fails, and returns how many bytes it put at the
+// start of the buffer. For an empty buffer it makes no call.
+pub fn read_full<R: Read>(from: &mut R, buffer: &mut [u8]) -> usize
+    ensures within { result ≤ length buffer.new }
+    ensures bytes { Consumes (R.remaining from.old) (R.remaining from.new) (take result buffer.new) }
+{
+    let mut done = 0;
+    while done < buffer.len() {
+        match from.read(&mut buffer[done..]) {
+            Ok(0) => return done,
+            Ok(n) => done += n,
+            Err(_) => return done,
+        }
+    }
+    done
+}
+
+// ---- what failed
+
+// The bytes that an error's message may have; the system's are far shorter.
+const LONGEST_MESSAGE: usize = 320;
+
+// The library puts the error's number behind the system's words, in brackets.
+const NUMBER: &[u8; 11] = b" (os error ";
+
+// Puts the library's message at the start of a buffer and says how long it is.
+fn put_message(text: &mut [u8; LONGEST_MESSAGE], error: Error) -> usize {
+    let mut rest: &mut [u8] = text;
+    // A message that has no room is cut.
+    let _ = write!(rest, "{error}");
+    LONGEST_MESSAGE.saturating_sub(rest.len())
+}
+
+// The system's words: a message without the number behind them.
+fn words_of(message: &[u8]) -> &[u8] {
+    for i in 0..message.len() {
+        if part_of(message, i, NUMBER.len()) == &NUMBER[..] {
+            return part_of(message, 0, i);
+        }
+    }
+    message
+}
+
+// Writes a line: what failed, as the caller names it, a colon and why.
+pub fn fail<W: Write>(to: &mut W, what: &[u8], error: Error) {
+    let mut text = [0u8; LONGEST_MESSAGE];
+    let n = put_message(&mut text, error);
+    write_all(to, what);
+    write_all(to, b": ");
+    write_all(to, words_of(part_of(&text, 0, n)));
+    write_all(to, b"\n");
+}
+
+// ---- files
+
+// The system's number for bytes that are no text.
+const NOT_TEXT: i32 = 84;
+
+// A name as the library takes it, which knows names of text alone.
+fn path_of(name: &[u8]) -> io::Result<&str> {
+    match std::str::from_utf8(name) {
+        Ok(path) => Ok(path),
+        Err(_) => Err(Error::from_raw_os_error(NOT_TEXT)),
+    }
+}
+
+// Opens a file for reading.
+pub fn open_read<F: Files>(files: &F, name: &[u8]) -> io::Result<F::File> {
+    File::open(files, path_of(name)?)
+}
+
+// Makes a new file, open for writing; fails where there is one of that name.
+pub fn create<F: Files>(files: &F, name: &[u8]) -> io::Result<F::File> {
+    OpenOptions::new()
+        .write(true)
+        .create_new(true)
+        .open(files, path_of(name)?)
+}
+
+pub fn unlink<F: Files>(files: &F, name: &[u8]) -> io::Result<()> {
+    fs::remove_file(files, path_of(name)?)
+}
