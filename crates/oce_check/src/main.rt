@@ -5,217 +5,253 @@
 
 use base::part_of;
 use image_texts::same_bytes;
-use libc::{STDERR_FILENO, STDIN_FILENO, STDOUT_FILENO};
 use oce_model::LONGEST_IMAGE;
 use print_batch::{Ending, print_batch_from};
 use print_check::{Input, print_check, print_fields, read_image};
+use std::env::{Env, FillError};
+use std::io::Error;
+use streams::{create, fail, open_read, read_full, unlink, write_all};
 
 // One byte more than the longest image, to notice one that is longer.
 const READ: usize = LONGEST_IMAGE + 1;
 
-fn print_help() {
-    io::write_all(
-        STDOUT_FILENO,
+// No file has a longer name.
+const LONGEST_NAME: usize = 4096;
+
+// ---- what is said; that it can't be written stops nothing
+
+fn print(rt: &HostRuntime, text: &[u8]) {
+    let _ = write_all(&mut rt.stdout(), text);
+}
+
+fn print_help(rt: &HostRuntime) {
+    print(
+        rt,
         b"oce_check checks a control model and prints its report.\n\n",
     );
-    io::write_all(
-        STDOUT_FILENO,
+    print(
+        rt,
         b"  oce_check                  the image on standard input\n",
     );
-    io::write_all(
-        STDOUT_FILENO,
-        b"  oce_check IMAGE            the image in a file\n",
-    );
-    io::write_all(
-        STDOUT_FILENO,
+    print(rt, b"  oce_check IMAGE            the image in a file\n");
+    print(
+        rt,
         b"  oce_check IMAGE FILLED     and writes the filled image to a new file, or for - behind the report\n",
     );
-    io::write_all(
-        STDOUT_FILENO,
+    print(
+        rt,
         b"  oce_check --fields IMAGE   lists the fields of the image in a file\n",
     );
-    io::write_all(
-        STDOUT_FILENO,
+    print(
+        rt,
         b"  oce_check --batch          the images of a batch on standard input\n",
     );
-    io::write_all(
-        STDOUT_FILENO,
+    print(
+        rt,
         b"  oce_check --batch BATCH    the images of a batch in a file\n\n",
     );
-    io::write_all(
-        STDOUT_FILENO,
+    print(
+        rt,
         b"The first line is 'errors N warnings M' or 'refused N at M'; a line a diagnostic follows:\n",
     );
-    io::write_all(
-        STDOUT_FILENO,
+    print(
+        rt,
         b"severity, code, rule and detail, place, subject. A refused image gives no filled image.\n",
     );
-    io::write_all(
-        STDOUT_FILENO,
+    print(
+        rt,
         b"A line of --fields has a field's offset, tag and length, up to the first that runs past the end.\n",
     );
-    io::write_all(
-        STDOUT_FILENO,
+    print(
+        rt,
         b"After --batch a line 'image I', I from 0, stands before each image's lines; a refused batch gives one line.\n",
     );
 }
 
-fn complain(text: &[u8]) {
-    io::write_all(STDERR_FILENO, b"oce_check: ");
-    io::write_all(STDERR_FILENO, text);
-    io::write_all(STDERR_FILENO, b"\n");
+fn complain(rt: &HostRuntime, text: &[u8]) {
+    let mut errors = rt.stderr();
+    let _ = write_all(&mut errors, b"oce_check: ");
+    let _ = write_all(&mut errors, text);
+    let _ = write_all(&mut errors, b"\n");
 }
+
+fn complain_of(rt: &HostRuntime, what: &[u8], why: Error) {
+    let _ = fail(&mut rt.stderr(), what, why);
+}
+
+// ---- the arguments
+
+// How many there are, the program's own name among them; more than four count as four.
+fn arg_count(rt: &HostRuntime) -> usize {
+    for i in 0..4 {
+        let mut none = [0u8; 0];
+        if let Err(FillError::NotPresent) = rt.arg(i, &mut none) {
+            return i;
+        }
+    }
+    4
+}
+
+// ---- one image
 
 // Writes the filled image to a new file, and says why if it can't.
-fn write_filled(name: &[u8], filled: &[u8]) {
-    let fd = os::create(name);
-    if fd < 0 {
-        os::fail(name);
-        return;
+fn write_filled(rt: &HostRuntime, name: &[u8], filled: &[u8]) {
+    match create(rt, name) {
+        Ok(mut file) => {
+            if let Err(why) = write_all(&mut file, filled) {
+                complain_of(rt, name, why);
+                let _ = unlink(rt, name);
+            }
+        }
+        Err(why) => complain_of(rt, name, why),
     }
-    let whole = io::write_all(fd, filled);
-    if !whole {
-        os::fail(name);
-        os::unlink(name);
-    }
-    libc::close(fd);
 }
 
-fn write_filled_as(i: usize, filled: &[u8]) {
-    let mut name = io::buffer();
-    let n = os::arg(i, &mut name);
-    if os::errno() != 0 {
-        complain(b"the second argument is too long");
-        return;
+fn write_filled_as(rt: &HostRuntime, i: usize, filled: &[u8]) {
+    let mut name = [0u8; LONGEST_NAME];
+    match rt.arg(i, &mut name) {
+        Ok(n) => {
+            if same_bytes(&name[..n], b"-") {
+                print(rt, filled);
+                return;
+            }
+            write_filled(rt, &name[..n], filled);
+        }
+        Err(_) => complain(rt, b"the second argument is too long"),
     }
-    if same_bytes(&name[..n], b"-") {
-        io::write_all(STDOUT_FILENO, filled);
-        return;
-    }
-    write_filled(&name[..n], filled);
 }
 
 // Checks an image; argument i, if there is one, names a new file for the filled image.
-fn check_image(image: &[u8], i: usize) {
+fn check_image(rt: &HostRuntime, image: &[u8], i: usize) {
     let mut filled = [0u8; LONGEST_IMAGE];
-    let outcome = print_check(STDOUT_FILENO, image, &mut filled);
+    let outcome = print_check(&mut rt.stdout(), image, &mut filled);
     if !outcome.printed {
-        complain(b"not all of the report could be written");
+        complain(rt, b"not all of the report could be written");
     }
-    if os::arg_count() <= i {
+    if arg_count(rt) <= i {
         return;
     }
     if !outcome.checked {
-        complain(b"a refused image gives no filled image");
+        complain(rt, b"a refused image gives no filled image");
         return;
     }
-    write_filled_as(i, part_of(&filled, 0, image.len()));
+    write_filled_as(rt, i, part_of(&filled, 0, image.len()));
 }
 
-fn check_stdin() {
+fn check_stdin(rt: &HostRuntime) {
     let mut bytes = [0u8; READ];
-    let n = io::read_full(STDIN_FILENO, &mut bytes);
-    check_image(&bytes[..n], 1);
+    let n = read_full(&mut rt.stdin(), &mut bytes);
+    check_image(rt, &bytes[..n], 1);
 }
 
-fn check_file(name: &[u8]) {
+fn check_file(rt: &HostRuntime, name: &[u8]) {
     let mut bytes = [0u8; READ];
-    let input = read_image(name, &mut bytes);
+    let input = read_image(rt, &mut rt.stderr(), name, &mut bytes);
     match input {
-        Input::Bytes(n) => check_image(part_of(&bytes, 0, n), 2),
-        Input::Unreadable => {}
+        Input::Bytes(n) => check_image(rt, part_of(&bytes, 0, n), 2),
+        Input::Unreadable(_) => {}
     }
 }
 
-fn list_file(name: &[u8]) {
+fn list_file(rt: &HostRuntime, name: &[u8]) {
     let mut bytes = [0u8; READ];
-    let input = read_image(name, &mut bytes);
+    let input = read_image(rt, &mut rt.stderr(), name, &mut bytes);
     match input {
         Input::Bytes(n) => {
-            if !print_fields(STDOUT_FILENO, part_of(&bytes, 0, n)) {
-                complain(b"not all of the fields could be listed");
+            if !print_fields(&mut rt.stdout(), part_of(&bytes, 0, n)) {
+                complain(rt, b"not all of the fields could be listed");
             }
         }
-        Input::Unreadable => {}
+        Input::Unreadable(_) => {}
     }
 }
 
 // Lists the fields of the image that the second argument names.
-fn list_named(count: usize) {
+fn list_named(rt: &HostRuntime, count: usize) {
     if count <= 2 {
-        complain(b"--fields needs an image; oce_check --help tells its use");
+        complain(
+            rt,
+            b"--fields needs an image; oce_check --help tells its use",
+        );
         return;
     }
-    let mut name = io::buffer();
-    let n = os::arg(2, &mut name);
-    if os::errno() != 0 {
-        complain(b"the second argument is too long");
-        return;
+    let mut name = [0u8; LONGEST_NAME];
+    match rt.arg(2, &mut name) {
+        Ok(n) => list_file(rt, &name[..n]),
+        Err(_) => complain(rt, b"the second argument is too long"),
     }
-    list_file(&name[..n]);
 }
+
+// ---- many images
 
 // Says what went wrong with a batch; name is what complaints call its file.
-fn complain_of_batch(ending: Ending, name: &[u8]) {
+fn complain_of_batch(rt: &HostRuntime, ending: Ending, name: &[u8]) {
     match ending {
         Ending::Printed => {}
-        Ending::Unreadable => os::fail(name),
-        Ending::TooLong => complain(b"the batch is longer than 4194304 bytes"),
-        Ending::NotWritten => complain(b"not all of the report could be written"),
+        Ending::Unreadable(why) => complain_of(rt, name, why),
+        Ending::TooLong => complain(rt, b"the batch is longer than 4194304 bytes"),
+        Ending::NotWritten => complain(rt, b"not all of the report could be written"),
     }
 }
 
-// Checks a batch of standard input, or of the file that the second argument names: two calls, so that what
-// they need of the stack isn't main's.
-fn check_images(count: usize) {
+fn check_batch_file(rt: &HostRuntime, name: &[u8]) {
+    match open_read(rt, name) {
+        Ok(mut file) => {
+            let ending = print_batch_from(&mut rt.stdout(), &mut file);
+            complain_of_batch(rt, ending, name);
+        }
+        Err(why) => complain_of(rt, name, why),
+    }
+}
+
+// Checks a batch of standard input, or of the file that the second argument names.
+fn check_images(rt: &HostRuntime, count: usize) {
     if count <= 2 {
-        let ending = print_batch_from(STDOUT_FILENO, STDIN_FILENO);
-        complain_of_batch(ending, b"standard input");
+        let ending = print_batch_from(&mut rt.stdout(), &mut rt.stdin());
+        complain_of_batch(rt, ending, b"standard input");
         return;
     }
-    let mut name = io::buffer();
-    let n = os::arg(2, &mut name);
-    if os::errno() != 0 {
-        complain(b"the second argument is too long");
-        return;
+    let mut name = [0u8; LONGEST_NAME];
+    match rt.arg(2, &mut name) {
+        Ok(n) => check_batch_file(rt, &name[..n]),
+        Err(_) => complain(rt, b"the second argument is too long"),
     }
-    let fd = os::open_read(&name[..n]);
-    if fd < 0 {
-        os::fail(&name[..n]);
-        return;
-    }
-    let ending = print_batch_from(STDOUT_FILENO, fd);
-    complain_of_batch(ending, &name[..n]);
-    libc::close(fd);
 }
 
-fn main() {
-    let count = os::arg_count();
+// ---- what the first argument asks for
+
+fn run(rt: &HostRuntime, first: &[u8], count: usize) {
+    if same_bytes(first, b"--help") {
+        print_help(rt);
+        return;
+    }
+    if same_bytes(first, b"--fields") {
+        list_named(rt, count);
+        return;
+    }
+    if same_bytes(first, b"--batch") {
+        check_images(rt, count);
+        return;
+    }
+    check_file(rt, first);
+}
+
+fn main(rt: HostRuntime) {
+    let count = arg_count(&rt);
     if count <= 1 {
-        check_stdin();
+        check_stdin(&rt);
         return;
     }
     if 3 < count {
-        complain(b"more than two arguments; oce_check --help tells its use");
+        complain(
+            &rt,
+            b"more than two arguments; oce_check --help tells its use",
+        );
         return;
     }
-    let mut name = io::buffer();
-    let n = os::arg(1, &mut name);
-    if os::errno() != 0 {
-        complain(b"the first argument is too long");
-        return;
+    let mut name = [0u8; LONGEST_NAME];
+    match rt.arg(1, &mut name) {
+        Ok(n) => run(&rt, &name[..n], count),
+        Err(_) => complain(&rt, b"the first argument is too long"),
     }
-    if same_bytes(&name[..n], b"--help") {
-        print_help();
-        return;
-    }
-    if same_bytes(&name[..n], b"--fields") {
-        list_named(count);
-        return;
-    }
-    if same_bytes(&name[..n], b"--batch") {
-        check_images(count);
-        return;
-    }
-    check_file(&name[..n]);
 }

@@ -36,11 +36,11 @@ pub record PrintedAs (s o o' : List ℕ) (e : Ending) : Type 0 where
 
 abbrev pub ending_read : Input → List ℕ → Bool → Ending
 ending_read (input.Bytes n) b written = ending_of (take n b) written
-ending_read input.Unreadable b written = Unreadable
+ending_read (input.Unreadable why) b written = Unreadable why
 
 abbrev pub output_after_read : Input → List ℕ → List ℕ → List ℕ
 output_after_read (input.Bytes n) b o = output_left (take n b) o
-output_after_read input.Unreadable b o = o
+output_after_read (input.Unreadable why) b o = o
 
 pub record ReadAs (read : Input) (b o o' : List ℕ) (e : Ending) : Type 0 where
   pub written : Bool

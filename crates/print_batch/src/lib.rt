@@ -25,6 +25,8 @@ use printed_batch::{
     LONGEST_IMAGE_LINES, LONGEST_REFUSAL_LINE, answer_of, count_of, image_lines, refusal_line,
     summary_in,
 };
+use std::io::{Error, Read, Write};
+use streams::write_all;
 
 // An output that is printed is shorter than this, so that each of its counts has room in four bytes.
 const LONG_OUTPUT: usize = 4294967296;
@@ -38,23 +40,23 @@ const READ_BATCH: usize = LONGEST_BATCH + 1;
 // The bytes that are lent for the output of a batch that is read.
 const READ_OUTPUT: usize = 2097152;
 
-fn print_refusal(fd: i32, number: u32, at: usize) -> bool {
+fn print_refusal<W: Write>(to: &mut W, number: u32, at: usize) -> bool {
     let mut out = [0u8; LONGEST_REFUSAL_LINE];
     let n = refusal_line(number, at, &mut out);
-    io::write_all(fd, part_of(&out, 0, n))
+    write_all(to, part_of(&out, 0, n)).is_ok()
 }
 
 // ---- one image
 
 // Prints the line in front of image i and its first one.
-fn print_first(fd: i32, i: u32, answer: Answer) -> bool {
+fn print_first<W: Write>(to: &mut W, i: u32, answer: Answer) -> bool {
     let mut out = [0u8; LONGEST_IMAGE_LINES];
     let n = image_lines(i, answer, &mut out);
-    io::write_all(fd, part_of(&out, 0, n))
+    write_all(to, part_of(&out, 0, n)).is_ok()
 }
 
 // Prints the lines of an accepted image's diagnostics, as many as count says.
-fn print_report<'a>(fd: i32, image: &'a [u8], report: &'a [u8], count: usize) -> bool
+fn print_report<'a, W: Write>(to: &mut W, image: &'a [u8], report: &'a [u8], count: usize) -> bool
     requires { (count < word_range) × Row report.now count }
 {
     let mut texts = [0usize; MOST_TEXTS];
@@ -62,13 +64,13 @@ fn print_report<'a>(fd: i32, image: &'a [u8], report: &'a [u8], count: usize) ->
     let acceptance = accept(image, &mut texts, &mut blocks);
     match acceptance {
         Acceptance::Refused { number: _, at: _ } => false,
-        Acceptance::Accepted(layout) => print_lines(fd, image, layout, &texts, report, count),
+        Acceptance::Accepted(layout) => print_lines(to, image, layout, &texts, report, count),
     }
 }
 
 // Prints the image in a field, whose part of the output begins at o with the summary r.
-fn print_image<'a>(
-    fd: i32,
+fn print_image<'a, W: Write>(
+    to: &mut W,
     batch: &'a [u8],
     f: Field,
     output: &'a [u8],
@@ -77,7 +79,7 @@ fn print_image<'a>(
 ) -> bool
     requires { Part batch.now f output.now o r }
 {
-    if !print_first(fd, f.ord as u32, answer_of(r)) {
+    if !print_first(to, f.ord as u32, answer_of(r)) {
         return false;
     }
     let count = count_of(r);
@@ -85,7 +87,7 @@ fn print_image<'a>(
         return true;
     }
     print_report(
-        fd,
+        to,
         image_in(batch, f),
         part_of(output, o + SUMMARY_SIZE, DIAGNOSTIC_SIZE * count),
         count,
@@ -103,7 +105,7 @@ fn part_end(o: usize, r: Summary) -> usize
 // ---- all of them
 
 // Prints the images of a batch that was checked: n bytes were written to the output.
-fn print_images<'a>(fd: i32, batch: &'a [u8], output: &'a [u8], n: usize) -> bool
+fn print_images<'a, W: Write>(to: &mut W, batch: &'a [u8], output: &'a [u8], n: usize) -> bool
     requires { Left batch.now output.now n }
 {
     if LONG_OUTPUT <= n {
@@ -113,7 +115,7 @@ fn print_images<'a>(fd: i32, batch: &'a [u8], output: &'a [u8], n: usize) -> boo
     let mut o = 0;
     while f.at < batch.len() {
         let r = summary_in(output, o);
-        if !print_image(fd, batch, f, output, o, r) {
+        if !print_image(to, batch, f, output, o, r) {
             return false;
         }
         o = part_end(o, r);
@@ -124,63 +126,69 @@ fn print_images<'a>(fd: i32, batch: &'a [u8], output: &'a [u8], n: usize) -> boo
 
 // Checks a batch and prints its refusal, or its images one after the other. The output gets what
 // `check_batch` leaves there. Says whether all was written.
-pub fn print_batch(fd: i32, batch: &[u8], output: &mut [u8]) -> bool
+pub fn print_batch<W: Write>(to: &mut W, batch: &[u8], output: &mut [u8]) -> bool
     ensures output { output.new ≡ output_after batch.now output.old }
 {
     let answer = check_batch(batch, output);
     match answer {
-        BatchAnswer::Refused { number, at } => print_refusal(fd, number, at),
-        BatchAnswer::Written(n) => print_images(fd, batch, output, n),
+        BatchAnswer::Refused { number, at } => print_refusal(to, number, at),
+        BatchAnswer::Written(n) => print_images(to, batch, output, n),
     }
 }
 
 // ---- a batch that is read
 
-// How it ended: all of it printed; not read; longer than what is taken, nothing printed; not all written.
+// How it ended: all of it printed; not read, and why; longer than what is taken, nothing printed; not all written.
 #[derive(Clone, Copy)]
 pub enum Ending {
     Printed,
-    Unreadable,
+    Unreadable(Error),
     TooLong,
     NotWritten,
 }
 
 // Prints a batch that was read, unless it is longer than what is taken.
-fn print_read(fd: i32, batch: &[u8], output: &mut [u8]) -> Ending
+fn print_read<W: Write>(to: &mut W, batch: &[u8], output: &mut [u8]) -> Ending
     ensures { PrintedAs batch.now output.old output.new result }
 {
     if LONGEST_BATCH < batch.len() {
         return Ending::TooLong;
     }
-    if print_batch(fd, batch, output) {
+    if print_batch(to, batch, output) {
         return Ending::Printed;
     }
     Ending::NotWritten
 }
 
 // Prints the batch that was read to the start of a buffer, which has room to notice one that is longer.
-fn print_input(fd: i32, input: Input, buffer: &[u8], output: &mut [u8]) -> Ending
+fn print_input<W: Write>(to: &mut W, input: Input, buffer: &[u8], output: &mut [u8]) -> Ending
     requires { longest_batch < length buffer.now }
     ensures { ReadAs input buffer.now output.old output.new result }
 {
     match input {
-        Input::Bytes(n) => print_read(fd, part_of(buffer, 0, n), output),
-        Input::Unreadable => Ending::Unreadable,
+        Input::Bytes(n) => print_read(to, part_of(buffer, 0, n), output),
+        Input::Unreadable(why) => Ending::Unreadable(why),
     }
 }
 
 // Reads a batch of an open file to such a buffer and prints it.
-fn read_and_print(fd: i32, from: i32, buffer: &mut [u8], output: &mut [u8]) -> Ending
+fn read_and_print<W: Write, R: Read>(
+    to: &mut W,
+    from: &mut R,
+    buffer: &mut [u8],
+    output: &mut [u8],
+) -> Ending
     requires { longest_batch < length buffer.old }
     ensures { SomeRead buffer.new output.old output.new result }
 {
     let input = read_from(from, buffer);
-    print_input(fd, input, buffer, output)
+    print_input(to, input, buffer, output)
 }
 
 // The same with buffers of its own. Its frame is large: called from one place alone it would be inlined there.
-pub fn print_batch_from(fd: i32, from: i32) -> Ending {
+#[inline(never)]
+pub fn print_batch_from<W: Write, R: Read>(to: &mut W, from: &mut R) -> Ending {
     let mut buffer = [0u8; READ_BATCH];
     let mut output = [0u8; READ_OUTPUT];
-    read_and_print(fd, from, &mut buffer, &mut output)
+    read_and_print(to, from, &mut buffer, &mut output)
 }

@@ -24,4 +24,4 @@ count_of (Checked errors warnings) = errors + warnings
 -- how many bytes of a buffer were read from a file
 abbrev pub read_length : Input → ℕ
 read_length (Bytes n) = n
-read_length Unreadable = 0
+read_length (Unreadable why) = 0

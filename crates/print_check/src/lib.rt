@@ -16,6 +16,9 @@ use oce_model::{LONGEST_IMAGE, MOST_BLOCKS, MOST_TEXTS};
 use oce_validate::check;
 use outcome::Answer;
 use printed::{LONGEST_FIRST_LINE, first_line, put_lines};
+use std::fs::Files;
+use std::io::{Error, Read, Write};
+use streams::{fail, open_read, read_full, write_all};
 
 // The bytes of a piece.
 const PIECE: usize = 65536;
@@ -24,8 +27,8 @@ const PIECE: usize = 65536;
 const LONGEST_REPORT: usize = 65535;
 
 // Prints the lines of a report's diagnostics, as many as count says, and says whether all were written.
-pub fn print_lines<'a>(
-    fd: i32,
+pub fn print_lines<'a, W: Write>(
+    to: &mut W,
     image: &'a [u8],
     layout: Layout,
     texts: &'a [usize; MOST_TEXTS],
@@ -38,7 +41,7 @@ pub fn print_lines<'a>(
     let mut next = 0;
     while next < count {
         let piece = put_lines(image, layout, texts, report, next, count, &mut out);
-        if !io::write_all(fd, part_of(&out, 0, piece.length)) {
+        if write_all(to, part_of(&out, 0, piece.length)).is_err() {
             return false;
         }
         next = piece.next;
@@ -47,7 +50,7 @@ pub fn print_lines<'a>(
 }
 
 // The same for an image that was accepted. No report that was lent holds as many as it has bytes.
-fn print_report<'a>(fd: i32, image: &'a [u8], report: &'a [u8], count: usize) -> bool
+fn print_report<'a, W: Write>(to: &mut W, image: &'a [u8], report: &'a [u8], count: usize) -> bool
     requires { Row report.now count }
 {
     if LONGEST_REPORT < count {
@@ -58,27 +61,27 @@ fn print_report<'a>(fd: i32, image: &'a [u8], report: &'a [u8], count: usize) ->
     let acceptance = accept(image, &mut texts, &mut blocks);
     match acceptance {
         Acceptance::Refused { number: _, at: _ } => false,
-        Acceptance::Accepted(layout) => print_lines(fd, image, layout, &texts, report, count),
+        Acceptance::Accepted(layout) => print_lines(to, image, layout, &texts, report, count),
     }
 }
 
-fn print_first(fd: i32, answer: Answer) -> bool {
+fn print_first<W: Write>(to: &mut W, answer: Answer) -> bool {
     let mut out = [0u8; LONGEST_FIRST_LINE];
     let n = first_line(answer, &mut out);
-    io::write_all(fd, part_of(&out, 0, n))
+    write_all(to, part_of(&out, 0, n)).is_ok()
 }
 
 // Prints an answer, and the diagnostics of a report that it counts.
-fn print_all<'a>(fd: i32, image: &'a [u8], report: &'a [u8], answer: Answer) -> bool
+fn print_all<'a, W: Write>(to: &mut W, image: &'a [u8], report: &'a [u8], answer: Answer) -> bool
     requires { Row report.now (count_of answer) }
 {
-    if !print_first(fd, answer) {
+    if !print_first(to, answer) {
         return false;
     }
     match answer {
         Answer::Refused { number: _, at: _ } => true,
         Answer::Checked { errors, warnings } => print_report(
-            fd,
+            to,
             image,
             report,
             errors as usize + warnings as usize,
@@ -115,7 +118,7 @@ fn check_lent(image: &[u8], filled: &mut [u8], report: &mut [u8]) -> Answer
 }
 
 // Checks an image and prints its report; filled gets the filled image, where there is no refusal.
-pub fn print_check(fd: i32, image: &[u8], filled: &mut [u8]) -> Outcome
+pub fn print_check<W: Write>(to: &mut W, image: &[u8], filled: &mut [u8]) -> Outcome
     ensures checked { result.checked ≡ is_checked (answer image.now (length filled.old) longest_report) }
     ensures filled { filled.new ≡ filled_after image.now filled.old lent_report }
 {
@@ -123,13 +126,13 @@ pub fn print_check(fd: i32, image: &[u8], filled: &mut [u8]) -> Outcome
     let answer = check_lent(image, filled, &mut report);
     Outcome {
         checked: is_checked(answer),
-        printed: print_all(fd, image, &report, answer),
+        printed: print_all(to, image, &report, answer),
     }
 }
 
 // Prints a line for each field of an image, up to the first that runs past its end, and says whether all
 // were written.
-pub fn print_fields(fd: i32, image: &[u8]) -> bool
+pub fn print_fields<W: Write>(to: &mut W, image: &[u8]) -> bool
     ensures { result ≡ true → length image.now ≤ longest_image }
 {
     if LONGEST_IMAGE < image.len() {
@@ -142,48 +145,57 @@ pub fn print_fields(fd: i32, image: &[u8]) -> bool
         if piece.next <= at {
             return true;
         }
-        if !io::write_all(fd, part_of(&out, 0, piece.length)) {
+        if write_all(to, part_of(&out, 0, piece.length)).is_err() {
             return false;
         }
         at = piece.next;
     }
 }
 
-// What was read of a file, or that nothing could be.
+// What was read of a file, or why nothing could be.
 #[derive(Clone, Copy)]
 pub enum Input {
     Bytes(usize),
-    Unreadable,
+    Unreadable(Error),
 }
 
 // Reads an open file to the start of a buffer, as much of it as that holds.
-pub fn read_from(fd: i32, image: &mut [u8]) -> Input
+pub fn read_from<R: Read>(from: &mut R, image: &mut [u8]) -> Input
     ensures { read_length result ≤ length image.new }
 {
-    let n = io::read_full(fd, image);
+    let n = read_full(from, image);
     if n == 0 {
         let mut more = [0u8; 1];
-        if libc::read(fd, &mut more) < 0 {
-            return Input::Unreadable;
+        if let Err(why) = from.read(&mut more) {
+            return Input::Unreadable(why);
         }
     }
     Input::Bytes(n)
 }
 
 // Reads a file to the start of a buffer, as much of it as that holds; says why if it can't be read.
-pub fn read_image(name: &[u8], image: &mut [u8]) -> Input
+pub fn read_image<F: Files, W: Write>(
+    files: &F,
+    complaints: &mut W,
+    name: &[u8],
+    image: &mut [u8],
+) -> Input
     ensures { read_length result ≤ length image.new }
 {
-    let fd = os::open_read(name);
-    if fd < 0 {
-        os::fail(name);
-        return Input::Unreadable;
+    match open_read(files, name) {
+        Ok(mut file) => {
+            let input = read_from(&mut file, image);
+            match input {
+                Input::Bytes(_) => {}
+                Input::Unreadable(why) => {
+                    let _ = fail(complaints, name, why);
+                }
+            }
+            input
+        }
+        Err(why) => {
+            let _ = fail(complaints, name, why);
+            Input::Unreadable(why)
+        }
     }
-    let input = read_from(fd, image);
-    match input {
-        Input::Bytes(_) => {}
-        Input::Unreadable => os::fail(name),
-    }
-    libc::close(fd);
-    input
 }

@@ -6,12 +6,17 @@
 use agreement::{Agreement, compare};
 use base::part_of;
 use image_texts::same_bytes;
-use libc::STDOUT_FILENO;
+use std::env::{Env, FillError};
+use std::fs::Files;
 use std::num::wrapping_add_u64;
 use stored::{FIRST_RECORD, Reading, Record, is_stored, record_at, record_count};
+use streams::{open_read, read_full};
 
 // No file is longer: a record of 131,072 bytes behind the file's first 12.
 const LONGEST_FILE: usize = 131084;
+
+// No file has a longer name.
+const LONGEST_NAME: usize = 4096;
 
 // The length of `wrong`, with which the name of a file begins whose answers are wrong on purpose.
 const WRONG_LENGTH: usize = 5;
@@ -35,72 +40,72 @@ struct Turn {
     pub is_cut: bool,
 }
 
-// ---- printing
+// ---- printing; that it can't be written stops nothing
 
-fn print(text: &[u8]) {
-    io::write_all(STDOUT_FILENO, text);
+fn print<P: Print>(to: &P, text: &[u8]) {
+    let _ = to.write_all(text);
 }
 
-fn print_number(n: u64) {
-    io::print_decimal(STDOUT_FILENO, n);
+fn print_number<P: Print>(to: &P, n: u64) {
+    let _ = to.print(n);
 }
 
-fn print_counted(n: u64, what: &[u8]) {
-    print_number(n);
-    print(what);
+fn print_counted<P: Print>(to: &P, n: u64, what: &[u8]) {
+    print_number(to, n);
+    print(to, what);
 }
 
-fn print_sum(sum: Sum) {
-    print_counted(sum.images, b" images ");
-    print_counted(sum.refused, b" refused ");
-    print_counted(sum.differ, b" differ");
+fn print_sum<P: Print>(to: &P, sum: Sum) {
+    print_counted(to, sum.images, b" images ");
+    print_counted(to, sum.refused, b" refused ");
+    print_counted(to, sum.differ, b" differ");
     if sum.failed > 0 {
-        print(b" ");
-        print_counted(sum.failed, b" files failed");
+        print(to, b" ");
+        print_counted(to, sum.failed, b" files failed");
     }
-    print(b"\n");
+    print(to, b"\n");
 }
 
-fn print_refusal(what: &[u8], number: usize, offset: usize) {
-    print(what);
-    print_number(number as u64);
-    print(b" at ");
-    print_number(offset as u64);
+fn print_refusal<P: Print>(to: &P, what: &[u8], number: usize, offset: usize) {
+    print(to, what);
+    print_number(to, number as u64);
+    print(to, b" at ");
+    print_number(to, offset as u64);
 }
 
-fn print_record(name: &[u8], k: usize) {
-    print(name);
-    print(b" record ");
-    print_number(k as u64);
+fn print_record<P: Print>(to: &P, name: &[u8], k: usize) {
+    print(to, name);
+    print(to, b" record ");
+    print_number(to, k as u64);
 }
 
 // Says how record k of a file differs, and gives how many differ: 1 or 0.
-fn print_difference(name: &[u8], k: usize, r: Record, found: Agreement) -> u64 {
+fn print_difference<P: Print>(to: &P, name: &[u8], k: usize, r: Record, found: Agreement) -> u64 {
     match found {
         Agreement::Same => {
             return 0;
         }
         Agreement::Refusal { number, at } => {
             let answer = r.answer;
-            print_record(name, k);
-            print_refusal(b" oracle ", answer.number, answer.offset);
-            print_refusal(b" here ", number as usize, at as usize);
+            print_record(to, name, k);
+            print_refusal(to, b" oracle ", answer.number, answer.offset);
+            print_refusal(to, b" here ", number as usize, at as usize);
         }
         Agreement::Counts => {
-            print_record(name, k);
-            print(b" errors and warnings differ");
+            print_record(to, name, k);
+            print(to, b" errors and warnings differ");
         }
         Agreement::Diagnostic(n) => {
-            print_record(name, k);
-            print(b" differs from diagnostic ");
-            print_number(n as u64);
+            print_record(to, name, k);
+            print(to, b" differs from diagnostic ");
+            print_number(to, n as u64);
         }
         Agreement::Filled => {
-            print_record(name, k);
-            print(b" filled image differs");
+            print_record(to, name, k);
+            print(to, b" filled image differs");
         }
     }
-    print(b"\n");
+    print(to, b"\n");
     1
 }
 
@@ -125,10 +130,10 @@ fn plus(a: Sum, b: Sum) -> Sum {
 }
 
 // Says why a file can't be gone through.
-fn fail(name: &[u8], why: &[u8]) -> Sum {
-    print(name);
-    print(why);
-    print(b"\n");
+fn fail<P: Print>(to: &P, name: &[u8], why: &[u8]) -> Sum {
+    print(to, name);
+    print(to, why);
+    print(to, b"\n");
     Sum {
         images: 0,
         refused: 0,
@@ -153,19 +158,19 @@ fn is_wrong(name: &[u8]) -> bool {
 }
 
 // Record k of a file.
-fn replay_record(name: &[u8], file: &[u8], k: usize, r: Record) -> Sum {
+fn replay_record<P: Print>(to: &P, name: &[u8], file: &[u8], k: usize, r: Record) -> Sum {
     let found = compare(file, r);
     Sum {
         images: 1,
         refused: is_refused(r),
-        differ: print_difference(name, k, r, found),
+        differ: print_difference(to, name, k, r, found),
         failed: 0,
     }
 }
 
 // ---- one file
 
-fn replay_next(name: &[u8], file: &[u8], k: usize, turn: Turn) -> Turn {
+fn replay_next<P: Print>(to: &P, name: &[u8], file: &[u8], k: usize, turn: Turn) -> Turn {
     let sum = turn.sum;
     let reading = record_at(file, turn.at);
     match reading {
@@ -176,14 +181,14 @@ fn replay_next(name: &[u8], file: &[u8], k: usize, turn: Turn) -> Turn {
         },
         Reading::Whole(r) => Turn {
             at: r.end,
-            sum: plus(sum, replay_record(name, file, k, r)),
+            sum: plus(sum, replay_record(to, name, file, k, r)),
             is_cut: false,
         },
     }
 }
 
 // All records, as many as the file says it has, up to one that doesn't fit.
-fn replay_records(name: &[u8], file: &[u8]) -> Turn {
+fn replay_records<P: Print>(to: &P, name: &[u8], file: &[u8]) -> Turn {
     let mut turn = Turn {
         at: FIRST_RECORD,
         sum: nothing(),
@@ -192,7 +197,7 @@ fn replay_records(name: &[u8], file: &[u8]) -> Turn {
     let count = record_count(file);
     let mut k = 0;
     while k < count {
-        turn = replay_next(name, file, k, turn);
+        turn = replay_next(to, name, file, k, turn);
         if turn.is_cut {
             return turn;
         }
@@ -201,60 +206,61 @@ fn replay_records(name: &[u8], file: &[u8]) -> Turn {
     turn
 }
 
-fn replay_bytes(name: &[u8], file: &[u8]) -> Sum {
+fn replay_bytes<P: Print>(to: &P, name: &[u8], file: &[u8]) -> Sum {
     if !is_stored(file) {
-        return fail(name, b" isn't a file of stored answers of version 1");
+        return fail(to, name, b" isn't a file of stored answers of version 1");
     }
-    let last = replay_records(name, file);
+    let last = replay_records(to, name, file);
     if last.is_cut {
-        return fail(name, b" has a record that doesn't fit");
+        return fail(to, name, b" has a record that doesn't fit");
     }
     if last.at != file.len() {
-        return fail(name, b" doesn't end with its last record");
+        return fail(to, name, b" doesn't end with its last record");
     }
-    print(name);
-    print(b" ");
+    print(to, name);
+    print(to, b" ");
     let sum = last.sum;
-    print_sum(sum);
+    print_sum(to, sum);
     if is_wrong(name) {
         return nothing();
     }
     sum
 }
 
-fn replay_file(name: &[u8]) -> Sum {
-    let fd = os::open_read(name);
-    if fd < 0 {
-        return fail(name, b" can't be opened");
+fn replay_file<R: Files + Print>(rt: &R, name: &[u8]) -> Sum {
+    match open_read(rt, name) {
+        Ok(mut from) => {
+            let mut file = [0u8; LONGEST_FILE + 1];
+            let n = read_full(&mut from, &mut file);
+            if n == 0 {
+                return fail(rt, name, b" is empty or can't be read");
+            }
+            if LONGEST_FILE < n {
+                return fail(rt, name, b" is too long");
+            }
+            replay_bytes(rt, name, &file[..n])
+        }
+        Err(_) => fail(rt, name, b" can't be opened"),
     }
-    let mut file = [0u8; LONGEST_FILE + 1];
-    let n = io::read_full(fd, &mut file);
-    libc::close(fd);
-    if n == 0 {
-        return fail(name, b" is empty or can't be read");
-    }
-    if LONGEST_FILE < n {
-        return fail(name, b" is too long");
-    }
-    replay_bytes(name, &file[..n])
 }
 
-fn replay_argument(i: usize) -> Sum {
-    let mut name = io::buffer();
-    let n = os::arg(i, &mut name);
-    if os::errno() != 0 {
-        return fail(b"a name", b" is too long");
+// Argument i, if there is one.
+fn replay_argument<R: Env + Files + Print>(rt: &R, i: usize) -> Option<Sum> {
+    let mut name = [0u8; LONGEST_NAME];
+    match rt.arg(i, &mut name) {
+        Ok(n) => Some(replay_file(rt, &name[..n])),
+        Err(FillError::TooLong) => Some(fail(rt, b"a name", b" is too long")),
+        Err(FillError::NotPresent) => None,
     }
-    replay_file(&name[..n])
 }
 
-fn main() {
-    let count = os::arg_count();
+fn main(rt: HostRuntime) {
     let mut total = nothing();
-    let mut i = 1;
-    while i < count {
-        total = plus(total, replay_argument(i));
-        i += 1;
+    for i in 1..usize::MAX {
+        match replay_argument(&rt, i) {
+            Some(sum) => total = plus(total, sum),
+            None => break,
+        }
     }
-    print_sum(total);
+    print_sum(&rt, total);
 }

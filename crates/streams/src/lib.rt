@@ -1,32 +1,32 @@
 // All of a buffer written or read, files whose names are bytes, and a line that says what failed. Nothing is allocated.
 #![tactic(auto)]
 
-ghost use Rattle.std.specs.Prelude.{◌≡◌, true, ◌≤◌, length, take};
+ghost use Rattle.std.specs.Prelude.{◌≤◌, length, take, OnOk};
 ghost use Rattle.std.specs.Io.KnownBytes.{Appends, Consumes};
 ghost use Rattle.streams.specs.Front.{AppendsFront};
 
 use base::part_of;
 use std::fs::{File, Files, OpenOptions};
-use std::io::{Error, Read, Write};
+use std::io::{Error, ErrorKind, Read, Write};
 use std::{fs, io};
 
 // ---- bytes
 
-// Writes all of the bytes and returns true, or stops at the first write that takes nothing or fails and
-// returns false, when some of them may have been written. For no bytes it makes no call.
-pub fn write_all<W: Write>(to: &mut W, bytes: &[u8]) -> bool
-    ensures all { result ≡ true → Appends (W.contents to.old) (W.contents to.new) bytes.now }
+// Writes all of the bytes, or stops at the first write that takes nothing or fails, when some of them may have
+// been written. For no bytes it makes no call.
+pub fn write_all<W: Write>(to: &mut W, bytes: &[u8]) -> io::Result<()>
+    ensures all { OnOk result (Appends (W.contents to.old) (W.contents to.new) bytes.now) }
     ensures some { AppendsFront (W.contents to.old) (W.contents to.new) bytes.now }
 {
     let mut done = 0;
     while done < bytes.len() {
         match to.write(&bytes[done..]) {
-            Ok(0) => return false,
+            Ok(0) => return Err(Error::from(ErrorKind::WriteZero)),
             Ok(n) => done += n,
-            Err(_) => return false,
+            Err(why) => return Err(why),
         }
     }
-    true
+    Ok(())
 }
 
 // Reads until the buffer is full, the input ends or a read fails, and returns how many bytes it put at the
@@ -73,13 +73,13 @@ fn words_of(message: &[u8]) -> &[u8] {
 }
 
 // Writes a line: what failed, as the caller names it, a colon and why.
-pub fn fail<W: Write>(to: &mut W, what: &[u8], error: Error) {
+pub fn fail<W: Write>(to: &mut W, what: &[u8], error: Error) -> io::Result<()> {
     let mut text = [0u8; LONGEST_MESSAGE];
     let n = put_message(&mut text, error);
-    write_all(to, what);
-    write_all(to, b": ");
-    write_all(to, words_of(part_of(&text, 0, n)));
-    write_all(to, b"\n");
+    write_all(to, what)?;
+    write_all(to, b": ")?;
+    write_all(to, words_of(part_of(&text, 0, n)))?;
+    write_all(to, b"\n")
 }
 
 // ---- files
