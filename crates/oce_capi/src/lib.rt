@@ -1,4 +1,4 @@
-// The checking calls for programs in C or Rust; include/oce.h is their header.
+// The checking calls with answers in numbers, as programs in C or Rust take them. oce_capi_c exports them; include/oce.h is their header.
 #![tactic(auto)]
 
 ghost use Rattle.std.specs.Prelude.{◌≡◌, length};
@@ -47,8 +47,7 @@ fn in_numbers(a: Answer) -> OceAnswer
 
 // Checks a model image: its report into one buffer, its filled image into the other. Where it is refused, or a buffer is
 // too short, both buffers stay as they are. `answer` is the answer in numbers, `moved` demand 3 of that answer.
-#[unsafe(no_mangle)]
-pub extern "C" fn oce_check(image: &[u8], filled: &mut [u8], report: &mut [u8]) -> OceAnswer
+pub fn oce_check(image: &[u8], filled: &mut [u8], report: &mut [u8]) -> OceAnswer
     ensures answer { result ≡ numbers (answer image.now (length filled.old) (length report.old)) }
     ensures filled { filled.new ≡ filled_after image.now filled.old report.old }
     ensures report { report.new ≡ report_after image.now filled.old report.old }
@@ -91,8 +90,7 @@ fn in_three_numbers(a: BatchAnswer) -> OceBatchAnswer
 
 // Checks a batch of model images: for each a field that sums up its check, and its report, into the output. Where the
 // batch is refused, or the output is too short, the output stays as it is. `answer` is the answer in numbers.
-#[unsafe(no_mangle)]
-pub extern "C" fn oce_check_batch(batch: &[u8], output: &mut [u8]) -> OceBatchAnswer
+pub fn oce_check_batch(batch: &[u8], output: &mut [u8]) -> OceBatchAnswer
     ensures answer { result ≡ three_numbers (batch_answer batch.now (length output.old)) }
     ensures output { output.new ≡ output_after batch.now output.old }
 {
