@@ -1,7 +1,7 @@
 /* The checker of CDL control models: a call for one image and a call for a batch of images, over
  * bytes that the caller lends.
  *
- * Link target/staticlib/liboce_capi.a (x86-64 Linux; built by `rt staticlib oce_capi`). Of the C
+ * Link target/staticlib/liboce_capi.a (x86-64 Linux; built by tools/library). Of the C
  * library it needs memset, memcpy and memmove at most. docs/FORMAT.md tells what an image, a report
  * and a rule are.
  */

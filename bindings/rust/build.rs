@@ -14,7 +14,7 @@ fn main() {
     println!("cargo::rerun-if-changed={}", library.display());
     if !library.is_file() {
         println!(
-            "cargo::error=no {}: build it first, by `rt staticlib oce_capi` at the top of the repository",
+            "cargo::error=no {}: build it first, by `tools/library` at the top of the repository",
             library.display()
         );
         return;
