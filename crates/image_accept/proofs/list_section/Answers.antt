@@ -18,7 +18,10 @@ returns-then-runs_past c = search (sieving-fault, listing-fault, rules)
 pub is_faulty_list-requires : goal.is_faulty_list-requires
 is_faulty_list-requires c =
     let turn = c in
-    (within_end turn.args.s.now turn.loop-g.g c.runs_past.ensures c.if-runs_past.false, turn.loop-g.invariant.sieves.rising.short)
+    record {
+    len_in_bounds = within_end turn.args.s.now turn.loop-g.g c.runs_past.ensures c.if-runs_past.false;
+    s_len_bound = turn.loop-g.invariant.sieves.rising.short;
+    }
 
 pub returns-then-is_faulty_list : goal.returns-then-is_faulty_list
 returns-then-is_faulty_list c = search (sieving-fault, listing-fault, rules)

@@ -18,7 +18,10 @@ returns-then-runs_past c = search (sieving-fault, rules)
 pub is_faulty-requires : goal.is_faulty-requires
 is_faulty-requires c =
     let turn = c in
-    (within_end turn.args.s.now turn.loop-g.g c.runs_past.ensures c.if-runs_past.false, turn.loop-g.invariant.rising.short)
+    record {
+    len_in_bounds = within_end turn.args.s.now turn.loop-g.g c.runs_past.ensures c.if-runs_past.false;
+    s_len_bound = turn.loop-g.invariant.rising.short;
+    }
 
 pub returns-then-is_faulty : goal.returns-then-is_faulty
 returns-then-is_faulty c = search (sieving-fault, rules)

@@ -16,4 +16,9 @@ pub sift_fixed-rest-requires : goal.sift_fixed-rest-requires
 sift_fixed-rest-requires c = search (ready-next, ready-blocks, rules)
 
 pub returns : goal.returns
-returns c = (search (surveys, rules), (search lists-texts, search lists-blocks))
+returns c =
+    record {
+    surveys = search (surveys, rules);
+    texts = search lists-texts;
+    blocks = search lists-blocks;
+    }
