@@ -1,6 +1,6 @@
 -- What the groups of rule 5.4 are, told by their keys (FORMAT 14): the keys ascend, a group has exactly the members with its key, and every In with an iri is in one.
 use Prim.Native.Nat.{ℕ, ◌<◌}
-use mathlib.Core.Path.{◌≡◌, refl, sym, ap, ◌∙◌}
+use mathlib.Core.Path.{◌≡◌, refl, sym, ap, subst, ◌∙◌}
 use mathlib.Core.Bool.{Bool, true, false, cond, ◌||◌, or-true, false≢true}
 use mathlib.Core.Logic.{◌⊎◌, inl, inr}
 use mathlib.Core.List.{List, [], ◌∷◌, ◌++◌, append-nil, append_assoc, Memᴰ}
@@ -119,7 +119,7 @@ module _ (key : ℕ → List ℕ) where
       where
         -- x opens a group, and none behind it has its key
         front : (t : Bool) → same k (key x) ≡ t → KeysBehind key (key x) (g ∷ gs) → cond t (x ∷ []) [] ++ gathered (g ∷ gs) ≡ gathered (g ∷ gs) ++ cond t (x ∷ []) []
-        front true f b = let n : gathered (g ∷ gs) ≡ [] = gathered-behind (g ∷ gs) (rw (same-sound k (key x) f) b) in rw n
+        front true f b = let n : gathered (g ∷ gs) ≡ [] = gathered-behind (g ∷ gs) (subst (λ j. KeysBehind key j (g ∷ gs)) (sym (same-sound k (key x) f)) b) in rw n
         front false f b = sym (append-nil (gathered (g ∷ gs)))
 
         go : (o : Ordering) → order (key x) (key g.first) ≡ o → gathered (enter key x gs) ≡ gathered gs ++ with_key key k (x ∷ [])

@@ -9,21 +9,8 @@ use Rattle.oce_model.specs.Texts.{order}
 use Rattle.image_texts.specs.Passed.{Passed}
 use Rattle.oce_model.specs.declared.Ordering.TheVariants.{Less, Equal, Greater}
 use Rattle.image_texts.proofs.Bytewise.{rest-longer, rest-shorter, rest-done, rest-less, rest-greater, rest_more}
-use Rattle.image_texts.proofs.order_of.Statement.{statement}
-use Rattle.image_texts.proofs.order_of.Tie as tie
-
-record Scans (a b : List ℕ) (n i : ℕ) : Type 0 where
-  of_a : n ≤ length a
-  of_b : n ≤ length b
-  all : n < length a → n ≡ length b
-  within : i ≤ n
-  passed : Passed a b i
-
-abbrev invariant-loop : tie.invariant-loop
-invariant-loop a b n i₀ i = Scans a b n i
-
-abbrev decreases-loop : tie.decreases-loop
-decreases-loop a b n i₀ i = n - i
+use Rattle.image_texts.proofs.order_of.Invariants.{Scans}
+use Rattle.image_texts.proofs.order_of.Goals as goal
 
 start : {a b : List ℕ} {n i : ℕ} → (n ≤ length a) × (n ≤ length b) → (n < length a → n ≡ length b) → Passed a b i × (i ≤ n) → Scans a b n i
 start h e p = record { of_a = h.0; of_b = h.1; all = e; within = p.1; passed = p.0 }
@@ -63,24 +50,23 @@ module _ {a b : List ℕ} {n i : ℕ} (v : Scans a b n i) where
       passed = record { in_a = omega (arith, in_a); in_b = omega (arith, in_b); same = v.passed.same ∙ rest_more a b i in_a in_b m k };
     }
 
-pub order-of-spec : {M : Type 1} → statement M
-order-of-spec =
-    tie.close
-    (tie.spec
-    invariant-loop
-    decreases-loop
-    (λ c κs. search rules)
-    (λ c κs. search rules)
-    (λ c. start c.before.shorter.ensures.0 c.before.shorter.ensures.1 c.skip-eights.ensures)
-    (λ c. search rules)
-    (λ c. search rules)
-    (λ c. search (less, rules))
-    (λ c. search rules)
-    (λ c. search rules)
-    (λ c. search (greater, rules))
-    (λ c. search rules)
-    (λ c. search rules)
-    (λ c. search (turn, rules))
-    (λ c. search (longer, rules))
-    (λ c. search (shorter, rules))
-    (λ c. search (done, rules)))
+pub loop-i-init : goal.loop-i-init
+loop-i-init c = start c.shorter-n.ensures.upper_bound c.shorter-n.ensures.value c.skip_eights-i.ensures
+
+pub returns-then-a-i : goal.returns-then-a-i
+returns-then-a-i c = search (less, rules)
+
+pub returns-then-b-i : goal.returns-then-b-i
+returns-then-b-i c = search (greater, rules)
+
+pub loop-i-preserved : goal.loop-i-preserved
+loop-i-preserved c = search (turn, rules)
+
+pub returns-then-i-a : goal.returns-then-i-a
+returns-then-i-a c = search (longer, rules)
+
+pub returns-then-i-b : goal.returns-then-i-b
+returns-then-i-b c = search (shorter, rules)
+
+pub returns : goal.returns
+returns c = search (done, rules)

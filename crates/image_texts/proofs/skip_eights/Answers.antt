@@ -9,18 +9,8 @@ use borrow.Author.Rules.{rules}
 use borrow.Author.Tests.{not-false}
 use Rattle.oce_model.specs.Texts.{order}
 use Rattle.image_texts.specs.Passed.{Passed}
-use Rattle.image_texts.proofs.skip_eights.Statement.{statement}
-use Rattle.image_texts.proofs.skip_eights.Tie as tie
-
-record Skips (a b : List ℕ) (n i : ℕ) : Type 0 where
-  within : i ≤ n
-  passed : Passed a b i
-
-abbrev invariant-loop : tie.invariant-loop
-invariant-loop a b n i₀ i = Skips a b n i
-
-abbrev decreases-loop : tie.decreases-loop
-decreases-loop a b n i₀ i = n - i
+use Rattle.image_texts.proofs.skip_eights.Invariants.{Skips}
+use Rattle.image_texts.proofs.skip_eights.Goals as goal
 
 start : {a b : List ℕ} {n : ℕ} → Skips a b n 0
 start = record { within = omega arith; passed = record { in_a = omega arith; in_b = omega arith; same = refl } }
@@ -29,17 +19,8 @@ turn : {a b : List ℕ} {n i : ℕ} {t : Bool} → n ≤ length a → n ≤ leng
     → (t ≡ true → order (drop i a) (drop i b) ≡ order (drop (i + 8) a) (drop (i + 8) b)) → Skips a b n (i + 8)
 turn h l r v e f = record { within = omega (arith, v.within); passed = record { in_a = omega arith; in_b = omega arith; same = v.passed.same ∙ f e } }
 
-pub skip-eights-spec : {M : Type 1} → statement M
-skip-eights-spec =
-    tie.close
-    (tie.spec
-    invariant-loop
-    decreases-loop
-    (λ c. start)
-    (λ c. search rules)
-    (λ c κs. search rules)
-    (λ c. search rules)
-    (λ c. search rules)
-    (λ c. search rules)
-    (λ c. search (turn, not-false, rules))
-    (λ c. search rules))
+pub loop-i-init : goal.loop-i-init
+loop-i-init c = start
+
+pub loop-i-preserved : goal.loop-i-preserved
+loop-i-preserved c = search (turn, not-false, rules)
