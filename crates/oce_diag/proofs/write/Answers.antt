@@ -9,8 +9,7 @@ use Rattle.oce_diag.specs.Encoding.{diagnostic_size, diagnostic_bytes}
 use Rattle.oce_diag.specs.Putting.{put_one}
 use Rattle.oce_diag.specs.declared.Diagnostic.{Diagnostic}
 use Rattle.oce_diag.proofs.Putting.{put_one-room, put_one-full}
-use Rattle.oce_diag.proofs.write.Statement.{statement}
-use Rattle.oce_diag.proofs.write.Tie as tie
+use Rattle.oce_diag.proofs.write.Goals as goal
 
 module _ (b : List ℕ) (n : ℕ) (d : Diagnostic) where
   room : {b' bs : List ℕ} → b' ≡ patch b (diagnostic_size * n) bs → bs ≡ diagnostic_bytes d → diagnostic_size * n + diagnostic_size ≤ length b → b' ≡ put_one b n d
@@ -19,15 +18,8 @@ module _ (b : List ℕ) (n : ℕ) (d : Diagnostic) where
   full : length b < diagnostic_size * n + diagnostic_size → b ≡ put_one b n d
   full h = sym (put_one-full b n d h)
 
-pub write_spec : {M : Type 1} → statement M
-write_spec =
-    tie.close
-    (tie.spec
-    (λ c. search rules)
-    (λ c. search rules)
-    (λ c κs. search rules)
-    (λ c. search rules)
-    (λ c κs. search rules)
-    (λ c. search rules)
-    (λ c. search (room, rules))
-    (λ c. search (full, rules)))
+pub returns-then-at-report : goal.returns-then-at-report
+returns-then-at-report c = search (room, rules)
+
+pub returns-else-at-report : goal.returns-else-at-report
+returns-else-at-report c = search (full, rules)

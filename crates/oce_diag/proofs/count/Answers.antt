@@ -8,8 +8,7 @@ use Rattle.base.specs.Lists.{keep}
 use Rattle.oce_diag.specs.Diagnostics.{errors, warnings}
 use Rattle.oce_diag.specs.declared.Severity.TheVariants.{Error, Warning}
 use Rattle.oce_diag.specs.declared.Diagnostic.{Diagnostic}
-use Rattle.oce_diag.proofs.count.Statement.{statement}
-use Rattle.oce_diag.proofs.count.Tie as tie
+use Rattle.oce_diag.proofs.count.Goals as goal
 
 module _ (n : ℕ) (d : Diagnostic) where
   error-errors : d.severity ≡ Error → n + 1 ≡ n + errors (d ∷ [])
@@ -30,13 +29,8 @@ module _ (n : ℕ) (d : Diagnostic) where
 
 ruleset mine = (error-errors, error-warnings, warning-errors, warning-warnings, rules)
 
-pub count_spec : {M : Type 1} → statement M
-count_spec =
-    tie.close
-    (tie.spec
-    (λ c. search rules)
-    (λ c. search rules)
-    (λ c. search rules)
-    (λ c. search rules)
-    (λ c. search mine)
-    (λ c. search mine))
+pub returns-in-Error : goal.returns-in-Error
+returns-in-Error c = search mine
+
+pub returns-in-Warning : goal.returns-in-Warning
+returns-in-Warning c = search mine
