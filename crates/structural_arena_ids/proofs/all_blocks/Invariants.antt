@@ -11,7 +11,7 @@ use Rattle.structural_arena_ids.proofs.Laws.{block-number}
 use Rattle.structural_arena_ids.proofs.all_blocks.Given as goal
 
 abbrev pub invariant-loop-i : goal.invariant-loop-i
-invariant-loop-i l = Emits (λ l.i. block_faults (model_of l.image) l.i (block (model_of l.image) l.i)) most_block_faults l.layout.blocks.count l.initial.report l.initial.c l.report l.c l.i
+invariant-loop-i l = Emits (λ i. block_faults (model_of l.image) i (block (model_of l.image) i)) most_block_faults l.layout.blocks.count l.initial.report l.initial.c l.report l.c l.i
 
 abbrev pub decreases-loop-i : goal.decreases-loop-i
 decreases-loop-i l = l.layout.blocks.count - l.i

@@ -11,7 +11,7 @@ use Rattle.structural_arena_ids.proofs.Laws.{connector-number}
 use Rattle.structural_arena_ids.proofs.all_connectors.Given as goal
 
 abbrev pub invariant-loop-i : goal.invariant-loop-i
-invariant-loop-i l = Emits (λ l.i. connector_faults (model_of l.image) l.i (connector (model_of l.image) l.i)) most_connector_faults l.layout.connectors.count l.initial.report l.initial.c l.report l.c l.i
+invariant-loop-i l = Emits (λ i. connector_faults (model_of l.image) i (connector (model_of l.image) i)) most_connector_faults l.layout.connectors.count l.initial.report l.initial.c l.report l.c l.i
 
 abbrev pub decreases-loop-i : goal.decreases-loop-i
 decreases-loop-i l = l.layout.connectors.count - l.i
