@@ -8,8 +8,7 @@ use borrow.Author.Rules.{rules}
 use borrow.Author.Tests.{eq-eqb, ne_eqb}
 use Rattle.numbers.specs.Bytes.{le32}
 use Rattle.stored.specs.Files.{magic, version, is_stored}
-use Rattle.stored.proofs.is_stored.Statement.{statement}
-use Rattle.stored.proofs.is_stored.Tie as tie
+use Rattle.stored.proofs.is_stored.Goals as goal
 
 module _ (s : List ℕ) {m : ℕ} (e : m ≡ le32 s 0) where
   other : (m ≡ magic → ⊥) → false ≡ is_stored s
@@ -20,11 +19,8 @@ module _ (s : List ℕ) {m : ℕ} (e : m ≡ le32 s 0) where
   unfolding is_stored
   same h f = sym (rw (← e, eq-eqb m magic h, ← f))
 
-pub is-stored-spec : {M : Type 1} → statement M
-is-stored-spec =
-    tie.close
-    (tie.spec
-    (λ c κs. search rules)
-    (λ c. search (other, rules))
-    (λ c κs. search rules)
-    (λ c. search (same, rules)))
+pub returns-then-at32-ne-MAGIC : goal.returns-then-at32-ne-MAGIC
+returns-then-at32-ne-MAGIC c = search (other, rules)
+
+pub returns : goal.returns
+returns c = search (same, rules)

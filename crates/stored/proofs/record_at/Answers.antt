@@ -13,8 +13,7 @@ use Rattle.stored.specs.Files.{answer_length, answer_at, placed, fits, record_at
 use Rattle.stored.specs.declared.Answer.{Answer}
 use Rattle.stored.specs.declared.Reading.{Reading}
 use Rattle.stored.specs.declared.Reading.TheVariants.{Whole, Cut}
-use Rattle.stored.proofs.record_at.Statement.{statement}
-use Rattle.stored.proofs.record_at.Tie as tie
+use Rattle.stored.proofs.record_at.Goals as goal
 
 not-both : (a b c d : ℕ) → (a ≤ b → c ≤ d → ⊥) → (leb a b && leb c d) ≡ false
 not-both a b c d h = arm (leb a b) (leb c d) refl refl
@@ -51,25 +50,17 @@ module _ (s : List ℕ) (at : ℕ) where
           let room : 4 + len + answer_length ≤ rest = omega arith in
           sym (rw (← e, ← f, le-leb (at + 4 + rest) (length s) inside, le-leb (4 + len + answer_length) rest room, ← g))
 
-pub record-at-spec : {M : Type 1} → statement M
-record-at-spec =
-    tie.close
-    (tie.spec
-    (λ c. search (tiny, rules))
-    (λ c. search rules)
-    (λ c. search (late, rules))
-    (λ c κs. search rules)
-    (λ c. search rules)
-    (λ c. search rules)
-    (λ c. search (long, rules))
-    (λ c. search rules)
-    (λ c κs. search rules)
-    (λ c. search rules)
-    (λ c. search (narrow, rules))
-    (λ c. search rules)
-    (λ c. search rules)
-    (λ c κs. search rules)
-    (λ c. search rules)
-    (λ c. search rules)
-    (λ c. search rules)
-    (λ c. search (whole, rules)))
+pub returns-then-s-lt-LEAST_RECORD : goal.returns-then-s-lt-LEAST_RECORD
+returns-then-s-lt-LEAST_RECORD c = search (tiny, rules)
+
+pub returns-then-s-at : goal.returns-then-s-at
+returns-then-s-at c = search (late, rules)
+
+pub returns-then-s-at-2 : goal.returns-then-s-at-2
+returns-then-s-at-2 c = search (long, rules)
+
+pub returns-then-rest-len : goal.returns-then-rest-len
+returns-then-rest-len c = search (narrow, rules)
+
+pub returns : goal.returns
+returns c = search (whole, rules)
