@@ -14,8 +14,8 @@ returns c =
     let noted = c.note_all.ensures in
     let pre = c.requires in
     let found = c.collect_known.ensures in
-    let members = collected-crowded _ _ _ noted.1.1 noted.1.0 noted.0 found.0 in
+    let members = collected-crowded _ _ _ noted.known noted.places noted.iri found.0 in
     record {
-    records = (members, omega (arith, found.1, pre.3, ap length noted.0));
-    iri = noted.0;
+    records = (members, omega (arith, found.1, pre.3, ap length noted.iri));
+    iri = noted.iri;
     }

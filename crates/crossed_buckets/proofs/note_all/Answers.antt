@@ -18,7 +18,7 @@ loop-x-preserved c =
     let at = c.loop-x.invariant in
     let told = c.note_one.ensures in
     let pre = c.requires in
-    notes-turn at told.0 told.1.0 told.1.1 (omega arith) (omega (arith, at.iris.long, at.buckets.long, pre.3, pre.4))
+    notes-turn at told.iri told.places told.known (omega arith) (omega (arith, at.iris.long, at.buckets.long, pre.3, pre.4))
 
 pub returns : goal.returns
 returns c = search (notes-iris, notes-places, notes-all, rules)
