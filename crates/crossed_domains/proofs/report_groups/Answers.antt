@@ -12,24 +12,24 @@ use Rattle.crossed_domains.proofs.Reporting.{MembersPassed, no-runs, passed_star
 use Rattle.crossed_domains.proofs.report_groups.Goals as goal
 
 -- the loop's test and the records' number lie too far back for `search` to find
-add-i : tie.Need-overflow-add-i invariant-loop decreases-loop
-add-i c = let pre = c.requires in omega (arith, c.loop-i-test.true, pre.4)
+pub overflow_add-i : goal.overflow_add-i
+overflow_add-i c = let pre = c.requires in omega (arith, c.loop-i-test.true, pre.4)
 
-loop-less : tie.Need-loop-smaller invariant-loop decreases-loop
-loop-less c = omega (arith, c.loop-i-test.true)
+pub loop-i-smaller : goal.loop-i-smaller
+loop-i-smaller c = omega (arith, c.loop-i-test.true)
 
-loop-again : tie.Need-loop-preserved invariant-loop decreases-loop
-loop-again c =
+pub loop-i-preserved : goal.loop-i-preserved
+loop-i-preserved c =
     let pre = c.requires in
     passed-turn c.loop-i.invariant c.step-p.ensures pre.3 c.loop-i-test.true
 
-same_length : tie.Need-same-length invariant-loop decreases-loop
-same_length c = put-length c.close.ensures.0 ∙ passed_length c.loop-i.invariant
+pub shape_of-report : goal.shape_of-report
+shape_of-report c = put-length c.close.ensures.0 ∙ passed_length c.loop-i.invariant
 
-returns-2 : tie.Need-returns-2 invariant-loop decreases-loop
-returns-2 c =
+pub returns : goal.returns
+returns c =
     let inv = c.loop-i.invariant in
-    let began = c.«open».ensures.1 in
+    let began = c.open-p.ensures.1 in
     let put = c.close.ensures in
     (passed-end inv began put.0 c.loop-i-test.false, passed-few inv began put.0 put.1)
 
@@ -45,20 +45,5 @@ loop-i-init c = search (passed_start, rules)
 pub step-p-requires : goal.step-p-requires
 step-p-requires c = search (passed-small, member-at, rules)
 
-pub overflow_add-i : goal.overflow_add-i
-overflow_add-i = add-i
-
-pub loop-i-smaller : goal.loop-i-smaller
-loop-i-smaller = loop-less
-
-pub loop-i-preserved : goal.loop-i-preserved
-loop-i-preserved = loop-again
-
 pub close-requires : goal.close-requires
 close-requires c = search (passed-small, rules)
-
-pub shape_of-report : goal.shape_of-report
-shape_of-report = same_length
-
-pub returns : goal.returns
-returns = returns-2
