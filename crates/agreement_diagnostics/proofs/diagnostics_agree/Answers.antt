@@ -14,10 +14,10 @@ pub returns-then-file-at : goal.returns-then-file-at
 returns-then-file-at c = (search (agreed-past, rules), search rules)
 
 pub returns-then-not-diagnostic_agrees : goal.returns-then-not-diagnostic_agrees
-returns-then-not-diagnostic_agrees c = (agreed-differs c.loop-n.invariant c.requires.0 c.requires.1 c.loop-n-test.true c.diagnostic_at-d.ensures c.diagnostic_agrees.ensures (not-true c.diagnostic_agrees.result c.if-not-diagnostic_agrees.true), search rules)
+returns-then-not-diagnostic_agrees c = (agreed-differs c.loop-n.invariant c.requires.0 c.requires.1 c.loop-n-test.true c.diagnostic_at-d.ensures c.diagnostic_agrees.ensures c.if-not-diagnostic_agrees.true, search rules)
 
 pub loop-n-preserved : goal.loop-n-preserved
-loop-n-preserved c = agreed-turn c.loop-n.invariant c.requires.0 c.requires.1 c.loop-n-test.true c.diagnostic_at-d.ensures c.diagnostic_agrees.ensures (not-false c.diagnostic_agrees.result c.if-not-diagnostic_agrees.false) c.at16.ensures.0
+loop-n-preserved c = agreed-turn c.loop-n.invariant c.requires.0 c.requires.1 c.loop-n-test.true c.diagnostic_at-d.ensures c.diagnostic_agrees.ensures c.if-not-diagnostic_agrees.false c.at16.ensures.0
 
 pub returns : goal.returns
 returns c = (search (agreed-end, rules), search rules)
