@@ -6,17 +6,17 @@ use Rattle.crossed_records.proofs.Laws.{rule5-put}
 use Rattle.crossed_records.proofs.check_crossed_bounds.Goals as goal
 
 pub inputs_crossed-b-requires : goal.inputs_crossed-b-requires
-inputs_crossed-b-requires c κs =
+inputs_crossed-b-requires c =
     let pre = c.requires in
     (pre.0, omega (arith, pre.3, c.connectors_crossed-a.ensures.1, connectors-few pre.0))
 
 pub outputs_crossed-c-requires : goal.outputs_crossed-c-requires
-outputs_crossed-c-requires c κs =
+outputs_crossed-c-requires c =
     let pre = c.requires in
     (pre.0, omega (arith, pre.3, c.connectors_crossed-a.ensures.1, c.inputs_crossed-b.ensures.1, connectors-few pre.0, boundary-inputs-few pre.0))
 
 pub check_combined_input_domains-requires : goal.check_combined_input_domains-requires
-check_combined_input_domains-requires c κs =
+check_combined_input_domains-requires c =
     let pre = c.requires in
     let a = c.connectors_crossed-a.ensures.1 in
     let b = c.inputs_crossed-b.ensures.1 in
