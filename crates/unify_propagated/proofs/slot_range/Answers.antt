@@ -10,7 +10,7 @@ returns-then-kind-eq-INTEGER_KIND c =
     let told = c.struct_told-then-kind-eq-INTEGER_KIND-1.given.1.1.1.1.1.1.1 in
     let low : SFits w64 c.args.layout.min = record { sfits = told.0.1 } in
     let high : SFits w64 c.args.layout.max = record { sfits = told.1.0.1 } in
-    range-integer _ _ c.kind_at-kind.ensures c.if-kind-eq-REAL_KIND.false c.requires.0 c.if-kind-eq-INTEGER_KIND.true c.integer_range.ensures c.Int-at.ensures low high
+    range-integer _ _ c.kind_at-kind.ensures c.if-kind-eq-REAL_KIND.false c.requires.0 c.if-kind-eq-INTEGER_KIND.true c.integer_range.ensures c.int_at.ensures low high
 
 pub returns-then-kind-eq-REAL_KIND : goal.returns-then-kind-eq-REAL_KIND
 returns-then-kind-eq-REAL_KIND c = search (range-real, rules)
