@@ -11,7 +11,7 @@ use Rattle.structural_wiring.proofs.Laws.{rule2-put}
 use Rattle.structural_wiring.proofs.check_boundary_outputs.Given as goal
 
 abbrev pub invariant-loop-i : goal.invariant-loop-i
-invariant-loop-i l = Emits (λ l.i. output_faults (model_of l.image) l.i (boundary_output (model_of l.image) l.i)) most_output_faults l.layout.outputs.count l.initial.report l.initial.c l.report l.c l.i
+invariant-loop-i l = Emits (λ i. output_faults (model_of l.image) i (boundary_output (model_of l.image) i)) most_output_faults l.layout.outputs.count l.initial.report l.initial.c l.report l.c l.i
 
 abbrev pub decreases-loop-i : goal.decreases-loop-i
 decreases-loop-i l = l.layout.outputs.count - l.i

@@ -11,7 +11,7 @@ use Rattle.structural_wiring.proofs.Laws.{rule4-put}
 use Rattle.structural_wiring.proofs.check_connections.Given as goal
 
 abbrev pub invariant-loop-k : goal.invariant-loop-k
-invariant-loop-k l = Emits (λ l.k. connection_faults (model_of l.image) l.k (connection (model_of l.image) l.k)) most_connection_faults l.layout.connections.count l.initial.report l.initial.c l.report l.c l.k
+invariant-loop-k l = Emits (λ k. connection_faults (model_of l.image) k (connection (model_of l.image) k)) most_connection_faults l.layout.connections.count l.initial.report l.initial.c l.report l.c l.k
 
 abbrev pub decreases-loop-k : goal.decreases-loop-k
 decreases-loop-k l = l.layout.connections.count - l.k
