@@ -14,7 +14,7 @@ returns-then-not-records_reach c = search (filled-astray, not-true, rules)
 pub image_agrees-requires : goal.image_agrees-requires
 image_agrees-requires c =
     let reach = c.records_reach in
-    (reach-inside c.args.file.now c.args.at c.args.count c.args.end reach.ensures (not-false reach.result c.if-not-records_reach.false) c.if-file-end.false, search (accepted-laid, rules), search rules)
+    (reach-inside c.args.file.now c.args.at c.args.count c.args.end reach.ensures c.if-not-records_reach.false c.if-file-end.false, search (accepted-laid, rules), search rules)
 
 pub returns-in-Refused : goal.returns-in-Refused
 returns-in-Refused c = search (filled-refused, rules)
