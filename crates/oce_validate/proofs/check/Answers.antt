@@ -14,7 +14,7 @@ returns c =
     record {
     answer = e.answer;
     numbers = ap numbers_of e.answer;
-    filled = e.filled-1;
-    report = e.report-1;
-    moved = moved start.image.now start.filled-1.now start.report-1.now _ _ _ (λ i. omega (arith, each i)) e.answer e.filled-1 e.report-1;
+    filled = e.filled;
+    report = e.report;
+    moved = moved start.image.now start.filled.now start.report.now _ _ _ (λ i. omega (arith, each i)) e.answer e.filled e.report;
     }
