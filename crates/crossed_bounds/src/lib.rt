@@ -1,7 +1,6 @@
 // Rule 5, as rules/crossed_bounds.rs has it.
 #![tactic(auto)]
 
-
 // One end of a Real range: the Rust's `Option<f64>`.
 #[derive(Clone, Copy)]
 pub enum End {

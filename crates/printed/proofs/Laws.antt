@@ -199,13 +199,6 @@ module _ {s report : List ℕ} {from count : ℕ} {b b' : List ℕ} {i k : ℕ} 
             printing-full (omega arith)
         arm false y e f t = printing-end (ltb-false i count e)
 
--- a turn of the loop, and how its place is told from a later one
-pub record Turn (s report : List ℕ) (from count : ℕ) (b : List ℕ) : Type 0 where
-  pub i : ℕ
-  pub k : ℕ
-  pub zs : List ℕ
-  pub is : Printing s report from count b zs i k
-
 -- ---- the line of what was found
 
 module _ (s report : List ℕ) (at : ℕ) {x : Found} {b : List ℕ} {k : ℕ} where

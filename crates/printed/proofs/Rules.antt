@@ -8,7 +8,7 @@ use mathlib.Core.List.{List, [], ◌∷◌}
 use mathlib.Core.Option.{none}
 use lib.ListN.{length, get_or}
 use lib.Dec.{eqb, ltb}
-use Rattle.base.specs.Lists.{each, only, any, tally}
+use Rattle.base.specs.Lists.{only, any, tally}
 use Rattle.base.proofs.Lists.{length-each, length-tab, tally-le}
 use Rattle.numbers.specs.Bytes.{word_range, byte, byte_range}
 use Rattle.oce_model.specs.Format.{no_text}

@@ -1,3 +1,2 @@
 // Images that are turned away. No code.
 #![tactic(auto)]
-

@@ -1,0 +1,37 @@
+-- `structural_arena_ids::all_blocks` meets its contract: a block a turn.
+use borrow.Author.Rules.{rules}
+use Prim.Native.Nat.{◌-◌}
+use Rattle.oce_diag.specs.Putting.{Emits}
+use Rattle.structural.specs.Structural.{block_faults, connector_faults}
+use Rattle.oce_model.specs.Model.{model_of, block, connector}
+use Rattle.oce_diag.proofs.Putting.{emits_start, emits-turn, emits-put, emits-adds, emits-countable, emits-length}
+use Rattle.image_records.proofs.Laws.{blocks-few}
+use Rattle.structural_arena_ids.specs.PerRecord.{most_block_faults}
+use Rattle.structural_arena_ids.proofs.Laws.{block-number}
+use Rattle.structural_arena_ids.proofs.all_blocks.Goals as goal
+
+ruleset mine = (emits_start, emits-turn, emits-put, emits-adds, emits-countable, emits-length, blocks-few, block-number, rules)
+
+pub loop-i-init : goal.loop-i-init
+loop-i-init c = search mine
+
+pub overflow_cast-i : goal.overflow_cast-i
+overflow_cast-i c = search mine
+
+pub block_faults-c-requires : goal.block_faults-c-requires
+block_faults-c-requires c = search mine
+
+pub overflow_add-i : goal.overflow_add-i
+overflow_add-i c = search mine
+
+pub loop-i-smaller : goal.loop-i-smaller
+loop-i-smaller c = search mine
+
+pub loop-i-preserved : goal.loop-i-preserved
+loop-i-preserved c = search mine
+
+pub shape_of-report : goal.shape_of-report
+shape_of-report c = search mine
+
+pub returns : goal.returns
+returns c = search mine

@@ -1,0 +1,7 @@
+-- `unify_clusters::unify_clusters` meets its contract.
+use borrow.Author.Rules.{rules}
+use Rattle.unify_clusters.proofs.Laws.{unified-count}
+use Rattle.unify_clusters.proofs.unify_clusters.Goals as goal
+
+pub returns : goal.returns
+returns c = unified-count c.linked_roots.ensures

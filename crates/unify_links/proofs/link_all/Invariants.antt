@@ -1,0 +1,12 @@
+-- `unify_links::link_all` meets its contract.
+use borrow.Author.Rules.{rules}
+use Rattle.oce_model.specs.Model.{model_of}
+use Rattle.unify_links.proofs.Laws.{Building}
+use Rattle.unify_links.proofs.Laws.{building-start, building-next, building-turn, building-inside, building-done, links-fit}
+use Rattle.unify_links.proofs.link_all.Given as goal
+
+abbrev pub invariant-loop-k : goal.invariant-loop-k
+invariant-loop-k l = Building (model_of l.image) l.initial.head l.initial.next l.k l.head l.next
+
+abbrev pub decreases-loop-k : goal.decreases-loop-k
+decreases-loop-k l = l.k

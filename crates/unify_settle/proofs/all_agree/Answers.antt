@@ -1,0 +1,38 @@
+-- `unify_settle::all_agree` meets its contract.
+use borrow.Author.Rules.{rules}
+use Prim.Native.Nat.{◌-◌}
+use lib.ListN.{length}
+use Rattle.oce_model.specs.Model.{model_of}
+use Rattle.unify_slots.specs.Table.{view}
+use Rattle.unify_settle.proofs.Laws.{Alike}
+use Rattle.unify_settle.proofs.Laws.{alike-start, alike-turn, alike-differ, alike-done, inside-at}
+use Rattle.unify_settle.proofs.all_agree.Goals as goal
+
+ruleset mine = (alike-start, alike-turn, alike-differ, alike-done, inside-at, rules)
+
+pub loop-i-init : goal.loop-i-init
+loop-i-init c = search mine
+
+pub offset_bounds-members-i : goal.offset_bounds-members-i
+offset_bounds-members-i c = search mine
+
+pub bounds-members-i : goal.bounds-members-i
+bounds-members-i c = search mine
+
+pub member_agrees-requires : goal.member_agrees-requires
+member_agrees-requires c = search mine
+
+pub overflow_add-i : goal.overflow_add-i
+overflow_add-i c = search mine
+
+pub loop-i-smaller : goal.loop-i-smaller
+loop-i-smaller c = search mine
+
+pub loop-i-preserved : goal.loop-i-preserved
+loop-i-preserved c = search mine
+
+pub returns-else-member_agrees : goal.returns-else-member_agrees
+returns-else-member_agrees c = search mine
+
+pub returns : goal.returns
+returns c = search mine
