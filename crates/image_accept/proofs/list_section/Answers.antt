@@ -16,8 +16,8 @@ returns-then-runs_past c = search (sieving-fault, listing-fault, rules)
 pub is_faulty_list-requires : goal.is_faulty_list-requires
 is_faulty_list-requires c =
     record {
-      len_in_bounds = within_end c.args.s.now c.loop-g.g c.runs_past.ensures c.if-runs_past.false;
-      s_len_bound = c.loop-g.invariant.sieves.rising.short;
+      inside = within_end c.args.s.now c.loop-g.g c.runs_past.ensures c.if-runs_past.false;
+      size = c.loop-g.invariant.sieves.rising.short;
     }
 
 pub returns-then-is_faulty_list : goal.returns-then-is_faulty_list
@@ -37,7 +37,7 @@ loop-g-smaller c = search (walk-less, rules)
 pub loop-g-preserved : goal.loop-g-preserved
 loop-g-preserved c =
     let inside = within_end c.args.s.now c.loop-g.g c.runs_past.ensures c.if-runs_past.false in
-    listing-turn c.loop-g.invariant c.requires.tag_le_highest_tag c.loop-g-test.true c.if-g-tag.false inside c.if-table-listed.false c.is_faulty_list.ensures c.if-is_faulty_list.false c.next_field-g.ensures.0 c.next_field-g.ensures.1
+    listing-turn c.loop-g.invariant c.requires.known_tag c.loop-g-test.true c.if-g-tag.false inside c.if-table-listed.false c.is_faulty_list.ensures c.if-is_faulty_list.false c.next_field-g.ensures.0 c.next_field-g.ensures.1
 
 pub returns : goal.returns
 returns c = search (sieving-end, listing-end, rules)

@@ -16,8 +16,8 @@ returns-then-runs_past c = search (sieving-fault, rules)
 pub is_faulty-requires : goal.is_faulty-requires
 is_faulty-requires c =
     record {
-      len_in_bounds = within_end c.args.s.now c.loop-g.g c.runs_past.ensures c.if-runs_past.false;
-      s_len_bound = c.loop-g.invariant.rising.short;
+      inside = within_end c.args.s.now c.loop-g.g c.runs_past.ensures c.if-runs_past.false;
+      size = c.loop-g.invariant.rising.short;
     }
 
 pub returns-then-is_faulty : goal.returns-then-is_faulty
@@ -34,7 +34,7 @@ loop-g-smaller c = search (walk-less, rules)
 pub loop-g-preserved : goal.loop-g-preserved
 loop-g-preserved c =
     let inside = within_end c.args.s.now c.loop-g.g c.runs_past.ensures c.if-runs_past.false in
-    sieving-turn c.loop-g.invariant c.requires.tag_le_highest_tag c.loop-g-test.true c.if-g-tag.false inside c.is_faulty.ensures c.if-is_faulty.false c.next_field-g.ensures.0 c.next_field-g.ensures.1
+    sieving-turn c.loop-g.invariant c.requires.known_tag c.loop-g-test.true c.if-g-tag.false inside c.is_faulty.ensures c.if-is_faulty.false c.next_field-g.ensures.0 c.next_field-g.ensures.1
 
 pub returns : goal.returns
 returns c = search (sieving-end, rules)
