@@ -5,6 +5,7 @@ use mathlib.Core.Bool.{Bool, true, cond}
 use mathlib.Core.List.{List}
 use lib.ListN.{length, take, drop, replicate, length-replicate}
 use borrow.Author.Tests.{lt-ltb, le-ltb}
+use Rattle.std.specs.declared.io.Error.{Error}
 use Rattle.batch.specs.Answer.{output_after}
 use Rattle.print_check.specs.declared.Input.{Input}
 use Rattle.print_check.specs.declared.Input.TheVariants as input
@@ -24,7 +25,7 @@ printed-as w {s = s} l q = let t = le-ltb longest_batch (length s) l in record {
 pub read_as : {i : Input} {n : ℕ} {b o o' t : List ℕ} {e : Ending} → i ≡ input.Bytes n → PrintedAs t o o' e → t ≡ take n (drop 0 b) → ReadAs i b o o' e
 read_as {n = n} {b = b} {o = o} {o' = o'} {e = e} k p q = let r : PrintedAs (take n b) o o' e = rw (← q) p in record { written = r.written; ending = rw k r.ending; output = rw k r.output }
 
-pub nothing_read : {i : Input} {b o : List ℕ} → i ≡ input.Unreadable → ReadAs i b o o Unreadable
+pub nothing_read : {i : Input} {why : Error} {b o : List ℕ} → i ≡ input.Unreadable why → ReadAs i b o o (Unreadable why)
 nothing_read k = record { written = true; ending = rw k; output = rw k }
 
 -- an array has room for more bytes than m, if its length is above; of any length, since large ones can't be counted out
