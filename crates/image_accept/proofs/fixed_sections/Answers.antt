@@ -1,4 +1,5 @@
 -- `image_accept::fixed_sections` meets its contract: each section begins where the one before ends.
+use mathlib.Core.Path.{◌≡◌}
 use Prim.Native.Nat.{ℕ}
 use mathlib.Core.List.{List}
 use borrow.Author.Rules.{rules}
