@@ -194,14 +194,11 @@ fn replay_records<P: Print>(to: &P, name: &[u8], file: &[u8]) -> Turn {
         sum: nothing(),
         is_cut: false,
     };
-    let count = record_count(file);
-    let mut k = 0;
-    while k < count {
+    for k in 0..record_count(file) {
         turn = replay_next(to, name, file, k, turn);
         if turn.is_cut {
             return turn;
         }
-        k += 1;
     }
     turn
 }
