@@ -92,7 +92,7 @@ fn pass_section(s: &[u8], f: Field, tag: usize) -> Run
 // The same, with the offset of each field put into a table.
 fn table_section(s: &[u8], f: Field, tag: usize, table: &mut [usize]) -> Run
     requires begins { Begins tag s.now f }
-    requires s_in_bounds { length (offsets_of tag s.now) ≤ length table.old }
+    requires room { length (offsets_of tag s.now) ≤ length table.old }
     ensures passed { PassedSection tag s.now result }
     ensures table { table.new ≡ starts_with (offsets_of tag s.now) table.old }
 {
@@ -188,9 +188,9 @@ fn refuse_fields(s: &[u8]) -> Verdict
 
 // The layout of an accepted image; the tables get the offsets of its texts and blocks.
 fn lay_out(s: &[u8], texts: &mut [usize], blocks: &mut [usize]) -> Layout
-    requires s_value { refusal s.now ≡ none }
-    requires text_tag_in_bounds { most text_tag ≤ length texts.old }
-    requires block_tag_in_bounds { most block_tag ≤ length blocks.old }
+    requires accepted { refusal s.now ≡ none }
+    requires text_room { most text_tag ≤ length texts.old }
+    requires block_room { most block_tag ≤ length blocks.old }
     ensures layout { result ≡ layout_of s.now }
     ensures texts { texts.new ≡ starts_with (offsets_of text_tag s.now) texts.old }
     ensures blocks { blocks.new ≡ starts_with (offsets_of block_tag s.now) blocks.old }
@@ -267,7 +267,7 @@ fn sift_head(s: &[u8], f: Field) -> Sifted
 // fault; n is the number of texts, for the tags behind texts.
 fn sift_section(s: &[u8], f: Field, tag: usize, n: usize) -> Sifted
     requires entering { Entering tag n s.now f }
-    requires tag_le_highest_tag { tag ≤ highest_tag }
+    requires known_tag { tag ≤ highest_tag }
     ensures { Sifts tag s.now result }
 {
     let start = f.at;
@@ -320,7 +320,7 @@ fn sift_section(s: &[u8], f: Field, tag: usize, n: usize) -> Sifted
 // The same, with the offset of each field put into a table, up to the table's end.
 fn list_section(s: &[u8], f: Field, tag: usize, n: usize, table: &mut [usize]) -> Sifted
     requires entering { Entering tag n s.now f }
-    requires tag_le_highest_tag { tag ≤ highest_tag }
+    requires known_tag { tag ≤ highest_tag }
     ensures sifts { Sifts tag s.now result }
     ensures table { TabledIfFine tag s.now result.fine table.new }
 {
@@ -385,7 +385,7 @@ fn list_section(s: &[u8], f: Field, tag: usize, n: usize, table: &mut [usize]) -
 // The section behind one that was passed; what is behind a fault isn't looked at.
 fn sift_on(s: &[u8], before: Sifted, tag: usize, n: usize) -> Sifted
     requires ready_for { ReadyFor tag n s.now before }
-    requires text_tag_lt_tag { (text_tag < tag) × (tag ≤ highest_tag) }
+    requires behind_texts { (text_tag < tag) × (tag ≤ highest_tag) }
     ensures follows { Follows tag s.now before result }
     ensures ready { ReadyFor (tag + 1) n s.now result }
 {
@@ -397,7 +397,7 @@ fn sift_on(s: &[u8], before: Sifted, tag: usize, n: usize) -> Sifted
 
 fn list_on(s: &[u8], before: Sifted, tag: usize, n: usize, table: &mut [usize]) -> Sifted
     requires ready_for { ReadyFor tag n s.now before }
-    requires tag_le_highest_tag { tag ≤ highest_tag }
+    requires known_tag { tag ≤ highest_tag }
     ensures follows { Follows tag s.now before result }
     ensures table { TabledIfFine tag s.now result.fine table.new }
 {
@@ -490,8 +490,8 @@ fn survey(s: &[u8], texts: &mut [usize], blocks: &mut [usize]) -> Surveyed
 // The answer for an image with whole fields and good tags, refusal by refusal.
 fn decide(s: &[u8], texts: &mut [usize], blocks: &mut [usize]) -> Acceptance
     requires well_framed { WellFramed s.now }
-    requires text_tag_in_bounds { most text_tag ≤ length texts.old }
-    requires block_tag_in_bounds { most block_tag ≤ length blocks.old }
+    requires text_room { most text_tag ≤ length texts.old }
+    requires block_room { most block_tag ≤ length blocks.old }
     ensures answer { result ≡ acceptance s.now }
     ensures texts { TabledIfAccepted text_tag s.now texts.new }
     ensures blocks { TabledIfAccepted block_tag s.now blocks.new }
@@ -505,9 +505,9 @@ fn decide(s: &[u8], texts: &mut [usize], blocks: &mut [usize]) -> Acceptance
 
 // The answer for an image of a good length, refusal by refusal.
 fn try_refusals(s: &[u8], texts: &mut [usize], blocks: &mut [usize]) -> Acceptance
-    requires shortest_image_in_bounds { (shortest_image ≤ length s.now) × (length s.now ≤ longest_image) }
-    requires text_tag_in_bounds { most text_tag ≤ length texts.old }
-    requires block_tag_in_bounds { most block_tag ≤ length blocks.old }
+    requires size { (shortest_image ≤ length s.now) × (length s.now ≤ longest_image) }
+    requires text_room { most text_tag ≤ length texts.old }
+    requires block_room { most block_tag ≤ length blocks.old }
     ensures answer { result ≡ acceptance s.now }
     ensures texts { TabledIfAccepted text_tag s.now texts.new }
     ensures blocks { TabledIfAccepted block_tag s.now blocks.new }

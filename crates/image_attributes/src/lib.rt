@@ -15,8 +15,8 @@ use oce_model::{
 
 // Real attributes: what is set, three text numbers, and three binary64 numbers.
 pub fn real_attrs(image: &[u8], at: usize) -> RealAttrs
-    requires at_bound { at ≤ longest_image + connector_attrs }
-    requires attrs_length_in_bounds { at + attrs_length ≤ length image.now }
+    requires place { at ≤ longest_image + connector_attrs }
+    requires room { at + attrs_length ≤ length image.now }
     ensures { (result ≡ real_attrs (attrs_at image.now at)) × (result.marks < byte_range) }
 {
     RealAttrs {
@@ -32,8 +32,8 @@ pub fn real_attrs(image: &[u8], at: usize) -> RealAttrs
 
 // Integer attributes.
 pub fn int_attrs(image: &[u8], at: usize) -> IntAttrs
-    requires at_bound { at ≤ longest_image + connector_attrs }
-    requires attrs_length_in_bounds { at + attrs_length ≤ length image.now }
+    requires place { at ≤ longest_image + connector_attrs }
+    requires room { at + attrs_length ≤ length image.now }
     ensures { (result ≡ int_attrs (attrs_at image.now at)) × (result.marks < byte_range) }
 {
     IntAttrs {
@@ -45,8 +45,8 @@ pub fn int_attrs(image: &[u8], at: usize) -> IntAttrs
 
 // The kind of the attributes at an offset.
 pub fn attrs_kind(image: &[u8], at: usize) -> usize
-    requires at_bound { at ≤ longest_image + connector_attrs }
-    requires attrs_length_in_bounds { at + attrs_length ≤ length image.now }
+    requires place { at ≤ longest_image + connector_attrs }
+    requires room { at + attrs_length ≤ length image.now }
     ensures { (result ≡ (attrs_at image.now at).kind) × (result < byte_range) }
 {
     read8(image, at)

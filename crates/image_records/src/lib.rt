@@ -149,8 +149,8 @@ pub fn block_offset(image: &[u8], layout: Layout, blocks: &[usize], i: BlockId) 
 
 // The block whose field stands at an offset, what stands in front of its ports.
 pub fn block(image: &[u8], at: usize) -> BlockFront
-    requires at_le_longest_image { at ≤ longest_image }
-    requires block_ports_in_bounds { at + block_ports ≤ length image.now }
+    requires place { at ≤ longest_image }
+    requires room { at + block_ports ≤ length image.now }
     ensures { (result ≡ block_read (block_at image.now at)) × (result.instance < short_range) × (result.inputs ≡ input_count_at image.now at) × (result.outputs ≡ output_count_at image.now at) }
 {
     BlockFront {
@@ -163,8 +163,8 @@ pub fn block(image: &[u8], at: usize) -> BlockFront
 
 // The id of port j of those whose ids begin at an offset.
 pub fn port(image: &[u8], ids: usize, j: usize) -> usize
-    requires ids_bound { (ids ≤ longest_image + longest_image) × (j ≤ longest_image) }
-    requires port_length_in_bounds { ids + port_length * j + port_length ≤ length image.now }
+    requires place { (ids ≤ longest_image + longest_image) × (j ≤ longest_image) }
+    requires room { ids + port_length * j + port_length ≤ length image.now }
     ensures { (result ≡ le32 image.now (ids + port_length * j)) × (result < word_range) }
 {
     read32(image, ids + PORT_LENGTH * j)

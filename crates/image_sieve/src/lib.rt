@@ -140,8 +140,8 @@ pub fn other_faulty(n: usize, s: &[u8], f: Field) -> bool
 
 // For texts and blocks.
 pub fn is_faulty_list(n: usize, s: &[u8], f: Field) -> bool
-    requires len_in_bounds { f.at + leading_bytes + f.len ≤ length s.now }
-    requires s_len_bound { length s.now ≤ longest_image }
+    requires inside { f.at + leading_bytes + f.len ≤ length s.now }
+    requires size { length s.now ≤ longest_image }
     ensures { result ≡ at_fault n s.now f }
 {
     if f.tag == TEXT_TAG {
@@ -155,8 +155,8 @@ pub fn is_faulty_list(n: usize, s: &[u8], f: Field) -> bool
 
 // For records of a fixed size.
 pub fn is_faulty(n: usize, s: &[u8], f: Field) -> bool
-    requires len_in_bounds { f.at + leading_bytes + f.len ≤ length s.now }
-    requires s_len_bound { length s.now ≤ longest_image }
+    requires inside { f.at + leading_bytes + f.len ≤ length s.now }
+    requires size { length s.now ≤ longest_image }
     ensures { result ≡ at_fault n s.now f }
 {
     if f.tag == CONNECTOR_TAG {

@@ -17,8 +17,8 @@ use oce_model::{FIELD_LENGTH_AT, LEADING_BYTES, Ordering};
 // ---- byte strings
 
 fn shorter(a: usize, b: usize) -> usize
-    ensures upper_bound { (result ≤ a) × (result ≤ b) }
-    ensures value { result < a → result ≡ b }
+    ensures within { (result ≤ a) × (result ≤ b) }
+    ensures exact { result < a → result ≡ b }
 {
     if a < b {
         return a;

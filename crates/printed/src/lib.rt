@@ -178,8 +178,8 @@ fn put_refusal(out: &mut [u8], number: u32, at: u32) -> usize
 // The first line, at the start of out: the counts, or the refusal. Gives its length.
 pub fn first_line(answer: Answer, out: &mut [u8]) -> usize
     requires { longest_first_line ≤ length out.old }
-    ensures value { result ≡ length (first_line answer) }
-    ensures out_after { out.new ≡ starts_with (first_line answer) out.old }
+    ensures length { result ≡ length (first_line answer) }
+    ensures out { out.new ≡ starts_with (first_line answer) out.old }
 {
     match answer {
         Answer::Checked { errors, warnings } => put_counts(out, errors, warnings),

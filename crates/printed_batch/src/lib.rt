@@ -36,8 +36,8 @@ fn put_image_line(out: &mut [u8], i: u32) -> usize
 // That line and the image's first one, at the start of out. Gives their length.
 pub fn image_lines(i: u32, answer: Answer, out: &mut [u8]) -> usize
     requires { longest_image_lines ≤ length out.old }
-    ensures value { result ≡ length (image_line i ++ first_line answer) }
-    ensures out_after { out.new ≡ starts_with (image_line i ++ first_line answer) out.old }
+    ensures length { result ≡ length (image_line i ++ first_line answer) }
+    ensures out { out.new ≡ starts_with (image_line i ++ first_line answer) out.old }
 {
     let k = put_image_line(out, i);
     let n = first_line(answer, &mut out[k..]);

@@ -45,8 +45,8 @@ fn label_length(kind: u8, number: u32) -> usize
 
 // Puts the same at the start of the scratch, where it has room, and gives the length written.
 pub fn write_label(kind: u8, number: u32, scratch: &mut [u8]) -> usize
-    ensures value { result ≡ length (if_room scratch.old (labelled kind number)) }
-    ensures scratch_after { scratch.new ≡ starts_with (if_room scratch.old (labelled kind number)) scratch.old }
+    ensures length { result ≡ length (if_room scratch.old (labelled kind number)) }
+    ensures scratch { scratch.new ≡ starts_with (if_room scratch.old (labelled kind number)) scratch.old }
 {
     if scratch.len() < LEAST_SCRATCH {
         return 0;

@@ -1,10 +1,7 @@
 -- `agreement_diagnostics::diagnostics_agree` meets its contract: a diagnostic a turn, as long as they agree.
-use borrow.Author.Rules.{rules}
-use borrow.Author.Tests.{not-true, not-false}
 use Prim.Native.Nat.{◌-◌}
 use Rattle.outcome.specs.Answer.{report_of}
 use Rattle.agreement_diagnostics.specs.Diagnostics.{Agreed}
-use Rattle.agreement_diagnostics.proofs.Laws.{agreed-start, agreed-turn, agreed-differs, agreed-past, agreed-end}
 use Rattle.agreement_diagnostics.proofs.diagnostics_agree.Given as goal
 
 abbrev pub invariant-loop-n : goal.invariant-loop-n

@@ -1,5 +1,4 @@
 -- `agreement_filled::image_agrees` meets its contract: the image that is expected, beside the filled one.
-use borrow.Author.Rules.{rules}
 use native.Mathlib.Omega.{arith}
 use Rattle.agreement_filled.proofs.Laws.{image-short, image-same}
 use Rattle.agreement_filled.proofs.image_agrees.Goals as goal

@@ -1,7 +1,6 @@
 -- `agreement_filled::put_records` meets its contract: a record a turn.
 use borrow.Author.Rules.{rules}
-use Prim.Native.Nat.{◌-◌}
-use Rattle.agreement_filled.proofs.Laws.{Puts, puts-start, puts-turn, puts-count, puts-bytes}
+use Rattle.agreement_filled.proofs.Laws.{puts-start, puts-turn, puts-count, puts-bytes}
 use Rattle.agreement_filled.proofs.put_records.Goals as goal
 
 pub loop-k-init : goal.loop-k-init

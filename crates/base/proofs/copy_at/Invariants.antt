@@ -1,14 +1,9 @@
 -- `base::copy_at` meets its contract: after i turns i bytes are pasted.
-use mathlib.Core.Path.{◌≡◌, refl, sym, ◌∙◌}
+use mathlib.Core.Path.{◌≡◌}
 use mathlib.Core.List.{List}
-use Prim.Native.Nat.{ℕ, ◌+◌, ◌-◌, ◌≤◌, ◌<◌}
-use native.Mathlib.Omega.{arith}
-use native.Mathlib.Numerals.{add-one}
-use lib.ListN.{length, get_or, set, length-set}
-use lib.Seq.{paste, paste-zero, paste-suc}
-use borrow.Author.Rules.{rules}
-use Rattle.base.specs.Buffers.{patch}
-use Rattle.base.proofs.Buffers.{patch-paste}
+use Prim.Native.Nat.{ℕ, ◌-◌, ◌≤◌}
+use lib.ListN.{length}
+use lib.Seq.{paste}
 use Rattle.base.proofs.copy_at.Given as goal
 
 pub record Copied (dst₀ : List ℕ) (at : ℕ) (src dst : List ℕ) (i : ℕ) : Type 0 where

@@ -1,10 +1,8 @@
 -- `batch_check::measure` meets its contract: the images passed are kept, and their bytes counted.
-use Prim.Native.Nat.{◌-◌}
-use lib.ListN.{length}
 use borrow.Author.Rules.{rules}
 use Rattle.image_framing.proofs.Walks.{walk-less}
 use Rattle.batch_framing.proofs.Passes.{passing-fits, passing-few}
-use Rattle.batch_check.proofs.Passes.{Measuring, measuring-start, measuring-sum, measuring-turn, measuring-long, measuring-end}
+use Rattle.batch_check.proofs.Passes.{measuring-start, measuring-sum, measuring-turn, measuring-long, measuring-end}
 use Rattle.batch_check.proofs.measure.Goals as goal
 
 pub loop-f-init : goal.loop-f-init

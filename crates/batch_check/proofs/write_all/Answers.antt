@@ -1,10 +1,8 @@
 -- `batch_check::write_all` meets its contract: what is left, written from o on, makes the whole output.
-use Prim.Native.Nat.{◌-◌}
-use lib.ListN.{length}
 use borrow.Author.Rules.{rules}
 use Rattle.image_framing.proofs.Walks.{walk-less}
 use Rattle.batch_framing.proofs.Passes.{passing-fits, passing-few}
-use Rattle.batch_check.proofs.Passes.{Writing, writing_start, writing-entry, writing-room, writing-turn, writing-end}
+use Rattle.batch_check.proofs.Passes.{writing_start, writing-entry, writing-room, writing-turn, writing-end}
 use Rattle.batch_check.proofs.write_all.Goals as goal
 
 pub loop-f-init : goal.loop-f-init

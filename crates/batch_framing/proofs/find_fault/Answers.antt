@@ -1,9 +1,7 @@
 -- `batch_framing::find_fault` meets its contract: none of the fields passed is at fault.
-use Prim.Native.Nat.{◌-◌}
-use lib.ListN.{length}
 use borrow.Author.Rules.{rules}
 use Rattle.image_framing.proofs.Walks.{past_end, within_end, walk-less}
-use Rattle.batch_framing.proofs.Finds.{Searching, searching-start, searching-turn, searching-bad, searching-cut, searching-none}
+use Rattle.batch_framing.proofs.Finds.{searching-start, searching-turn, searching-bad, searching-cut, searching-none}
 use Rattle.batch_framing.proofs.find_fault.Goals as goal
 
 pub loop-f-init : goal.loop-f-init

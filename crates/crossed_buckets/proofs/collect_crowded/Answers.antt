@@ -16,6 +16,6 @@ returns c =
     let found = c.collect_known.ensures in
     let members = collected-crowded _ _ _ noted.known noted.places noted.iri found.0 in
     record {
-    records = (members, omega (arith, found.1, pre.3, ap length noted.iri));
-    iri = noted.iri;
+      records = (members, omega (arith, found.1, pre.3, ap length noted.iri));
+      iri = noted.iri;
     }

@@ -1,7 +1,6 @@
 -- `crossed_buckets::collect_known` meets its contract.
-use borrow.Author.Rules.{rules}
 use Prim.Native.Nat.{◌-◌}
-use Rattle.crossed_buckets.proofs.Laws.{Collects, collects-start, collects-turn, collects-all}
+use Rattle.crossed_buckets.proofs.Laws.{Collects}
 use Rattle.crossed_buckets.proofs.collect_known.Given as goal
 
 abbrev pub invariant-loop-x : goal.invariant-loop-x

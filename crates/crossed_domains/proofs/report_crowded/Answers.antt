@@ -1,5 +1,4 @@
 -- `crossed_domains::report_crowded` meets its contract.
-use borrow.Author.Rules.{rules}
 use native.Mathlib.Omega.{arith}
 use Rattle.crossed_domains.proofs.Laws.{front-collected, front-few}
 use Rattle.crossed_domains.proofs.report_crowded.Goals as goal

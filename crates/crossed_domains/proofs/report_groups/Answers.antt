@@ -2,13 +2,9 @@
 use mathlib.Core.Path.{◌∙◌}
 use borrow.Author.Rules.{rules}
 use Rattle.oce_diag.proofs.Putting.{put-length}
-use Prim.Native.Nat.{◌-◌}
 use native.Mathlib.Omega.{arith}
-use lib.ListN.{length}
-use Rattle.oce_model.specs.Model.{model_of}
-use Rattle.crossed_members.specs.Members.{member_count}
 use Rattle.crossed_domains.proofs.Laws.{first_member, member-at}
-use Rattle.crossed_domains.proofs.Reporting.{MembersPassed, no-runs, passed_start, passed-turn, passed-end, passed-few, passed-small, passed_length}
+use Rattle.crossed_domains.proofs.Reporting.{no-runs, passed_start, passed-turn, passed-end, passed-few, passed-small, passed_length}
 use Rattle.crossed_domains.proofs.report_groups.Goals as goal
 
 -- the loop's test and the records' number lie too far back for `search` to find

@@ -1,5 +1,4 @@
 -- `crossed_domains::report_members` meets its contract.
-use borrow.Author.Rules.{rules}
 use native.Mathlib.Omega.{arith}
 use Rattle.crossed_domains.proofs.Laws.{members-few, members-sorted, length-sorted, sorted-key, collected-below, collected-faults}
 use Rattle.crossed_domains.proofs.report_members.Goals as goal

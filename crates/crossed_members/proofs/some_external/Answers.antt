@@ -1,8 +1,6 @@
 -- `crossed_members::some_external` meets its contract.
 use borrow.Author.Rules.{rules}
-use Prim.Native.Nat.{◌-◌}
-use Rattle.oce_model.specs.Model.{model_of}
-use Rattle.crossed_members.proofs.Laws.{Looks, looks-start, looks-turn, looks-all, looks-found}
+use Rattle.crossed_members.proofs.Laws.{looks-start, looks-turn, looks-all, looks-found}
 use Rattle.crossed_members.proofs.some_external.Goals as goal
 
 pub loop-i-init : goal.loop-i-init

@@ -1,8 +1,7 @@
 -- `crossed_members::some_external` meets its contract.
-use borrow.Author.Rules.{rules}
 use Prim.Native.Nat.{◌-◌}
 use Rattle.oce_model.specs.Model.{model_of}
-use Rattle.crossed_members.proofs.Laws.{Looks, looks-start, looks-turn, looks-all, looks-found}
+use Rattle.crossed_members.proofs.Laws.{Looks}
 use Rattle.crossed_members.proofs.some_external.Given as goal
 
 abbrev pub invariant-loop-i : goal.invariant-loop-i

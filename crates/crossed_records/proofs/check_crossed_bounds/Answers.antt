@@ -1,6 +1,5 @@
 -- `crossed_records::check_crossed_bounds` meets its contract: its four parts, one after the other.
 use native.Mathlib.Omega.{arith}
-use borrow.Author.Rules.{rules}
 use Rattle.image_records.proofs.Laws.{connectors-few, boundary-inputs-few, boundary-outputs-few}
 use Rattle.crossed_records.proofs.Laws.{rule5-put}
 use Rattle.crossed_records.proofs.check_crossed_bounds.Goals as goal

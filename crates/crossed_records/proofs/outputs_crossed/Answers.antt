@@ -1,11 +1,7 @@
 -- `crossed_records::outputs_crossed` meets its contract.
-use Prim.Native.Nat.{◌-◌}
 use borrow.Author.Rules.{rules}
-use Rattle.oce_model.specs.Model.{model_of}
-use Rattle.oce_diag.specs.Putting.{Emits}
 use Rattle.oce_diag.proofs.Putting.{emits_start, emits-turn, emits-put, emits-adds, emits-countable, emits-length}
 use Rattle.image_records.proofs.Laws.{boundary-outputs-few}
-use Rattle.crossed_bounds.specs.CrossedBounds.{output_crossed}
 use Rattle.crossed_records.proofs.Laws.{outputs-room}
 use Rattle.crossed_records.proofs.outputs_crossed.Goals as goal
 

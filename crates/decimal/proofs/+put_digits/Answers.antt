@@ -1,5 +1,5 @@
 -- `decimal::put_digits` meets its contract: the digits of n / 10, then the last one.
-use Rattle.std.proofs.Common.{◌≡◌, ℕ, ◌+◌, ◌/◌, ◌%◌, ◌<◌, ◌≤◌, sym, ap, ◌∙◌, List, [], ◌∷◌, length, length-append, arith, rules}
+use Rattle.std.proofs.Common.{[], ◌≡◌, ℕ, ◌+◌, ◌/◌, ◌%◌, ◌<◌, ◌≤◌, sym, ap, ◌∙◌, List, ◌∷◌, length, length-append, arith}
 use Rattle.decimal.specs.Decimal.{ten, digit, wide_decimal}
 use Rattle.decimal.specs.Appending.{Appended}
 use Rattle.decimal.proofs.Decimal.{wide-one, wide-more}

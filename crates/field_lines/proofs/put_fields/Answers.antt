@@ -1,8 +1,6 @@
 -- `field_lines::put_fields` meets its contract: the fields up to the offset at are listed.
-use Prim.Native.Nat.{◌-◌}
-use lib.ListN.{length}
 use borrow.Author.Rules.{rules}
-use Rattle.field_lines.proofs.Laws.{Listing, listing_start, listing-long, listing-room, listing-less, listing-turn, listing-end, listing_full}
+use Rattle.field_lines.proofs.Laws.{listing_start, listing-long, listing-room, listing-less, listing-turn, listing-end, listing_full}
 use Rattle.field_lines.proofs.put_fields.Goals as goal
 
 pub loop-out-init : goal.loop-out-init

@@ -1,8 +1,7 @@
 -- `field_lines::put_fields` meets its contract: the fields up to the offset at are listed.
 use Prim.Native.Nat.{◌-◌}
 use lib.ListN.{length}
-use borrow.Author.Rules.{rules}
-use Rattle.field_lines.proofs.Laws.{Listing, listing_start, listing-long, listing-room, listing-less, listing-turn, listing-end, listing_full}
+use Rattle.field_lines.proofs.Laws.{Listing}
 use Rattle.field_lines.proofs.put_fields.Given as goal
 
 abbrev pub invariant-loop-out : goal.invariant-loop-out

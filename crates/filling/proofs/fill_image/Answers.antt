@@ -1,7 +1,6 @@
 -- `filling::fill_image` meets its contract.
 use borrow.Author.Rules.{rules}
-use Prim.Native.Nat.{◌-◌}
-use Rattle.filling.proofs.Laws.{Fills, fills-start, fills-inside, fills-fit, fills-turn, fills-done}
+use Rattle.filling.proofs.Laws.{fills-start, fills-inside, fills-fit, fills-turn, fills-done}
 use Rattle.filling.proofs.fill_image.Goals as goal
 
 pub loop-j-init : goal.loop-j-init

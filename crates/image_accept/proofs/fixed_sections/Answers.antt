@@ -1,7 +1,7 @@
 -- `image_accept::fixed_sections` meets its contract: each section begins where the one before ends.
+use mathlib.Core.Path.{◌≡◌}
 use Prim.Native.Nat.{ℕ}
 use mathlib.Core.List.{List}
-use mathlib.Core.Path.{◌≡◌}
 use borrow.Author.Rules.{rules}
 use Rattle.oce_model.specs.Format.{connector_tag, connection_tag, external_input_tag, boundary_input_tag, boundary_output_tag}
 use Rattle.image_accept.specs.Sections.{PassedSection, fixed_of}

@@ -1,9 +1,7 @@
 -- `image_accept::list_section` meets its contract: the same, and the table begins with the offsets of the fields passed.
 use Prim.Native.Nat.{◌-◌}
 use lib.ListN.{length}
-use borrow.Author.Rules.{rules}
-use Rattle.image_framing.proofs.Walks.{within_end, walk-less}
-use Rattle.image_accept.proofs.Sifts.{sieving-past, sieving-end, sieving-fault, Listing, listing_start, listing-turn, listing-past, listing-end, listing-fault}
+use Rattle.image_accept.proofs.Sifts.{Listing}
 use Rattle.image_accept.proofs.list_section.Given as goal
 
 abbrev pub invariant-loop-g : goal.invariant-loop-g

@@ -1,9 +1,7 @@
 -- `image_accept::pass_section` meets its contract: the fields passed have the tag, those left have it or a higher one.
 use Prim.Native.Nat.{◌-◌}
 use lib.ListN.{length}
-use borrow.Author.Rules.{rules}
-use Rattle.image_framing.proofs.Walks.{walk-less}
-use Rattle.image_accept.proofs.Runs.{Counting, counting-start, counting-turn, counting-room, counting-past, counting-end}
+use Rattle.image_accept.proofs.Runs.{Counting}
 use Rattle.image_accept.proofs.pass_section.Given as goal
 
 abbrev pub invariant-loop-g : goal.invariant-loop-g

@@ -1,7 +1,6 @@
 -- `image_accept::refuse_fields` meets its contract: the refusals below k don't apply.
-use Prim.Native.Nat.{◌-◌}
 use borrow.Author.Rules.{rules}
-use Rattle.image_accept.proofs.Answers.{Refusing, refusing-start, refusing-turn, refusing-found, refusing-end, found-small}
+use Rattle.image_accept.proofs.Answers.{refusing-start, refusing-turn, refusing-found, refusing-end, found-small}
 use Rattle.image_accept.proofs.refuse_fields.Goals as goal
 
 pub loop-k-init : goal.loop-k-init

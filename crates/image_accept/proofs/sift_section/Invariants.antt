@@ -1,9 +1,7 @@
 -- `image_accept::sift_section` meets its contract: the fields passed have the tag, and none is at fault.
 use Prim.Native.Nat.{◌-◌}
 use lib.ListN.{length}
-use borrow.Author.Rules.{rules}
-use Rattle.image_framing.proofs.Walks.{within_end, walk-less}
-use Rattle.image_accept.proofs.Sifts.{Sieving, sieving-start, sieving-turn, sieving-past, sieving-end, sieving-fault}
+use Rattle.image_accept.proofs.Sifts.{Sieving}
 use Rattle.image_accept.proofs.sift_section.Given as goal
 
 abbrev pub invariant-loop-g : goal.invariant-loop-g

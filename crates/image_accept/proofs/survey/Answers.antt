@@ -18,7 +18,7 @@ sift_fixed-rest-requires c = search (ready-next, ready-blocks, rules)
 pub returns : goal.returns
 returns c =
     record {
-    surveys = search (surveys, rules);
-    texts = search lists-texts;
-    blocks = search lists-blocks;
+      surveys = search (surveys, rules);
+      texts = search lists-texts;
+      blocks = search lists-blocks;
     }

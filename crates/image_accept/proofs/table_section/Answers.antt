@@ -1,9 +1,7 @@
 -- `image_accept::table_section` meets its contract: the table begins with the offsets of the fields passed.
-use Prim.Native.Nat.{◌-◌}
-use lib.ListN.{length}
 use borrow.Author.Rules.{rules}
 use Rattle.image_framing.proofs.Walks.{walk-less}
-use Rattle.image_accept.proofs.Runs.{counting-room, counting-past, counting-end, Tabling, tabling-start, tabling-index, tabling-turn, table-past, table-end}
+use Rattle.image_accept.proofs.Runs.{counting-room, counting-past, counting-end, tabling-start, tabling-index, tabling-turn, table-past, table-end}
 use Rattle.image_accept.proofs.table_section.Goals as goal
 
 pub loop-g-init : goal.loop-g-init

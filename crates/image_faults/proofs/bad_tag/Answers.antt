@@ -1,5 +1,4 @@
 -- `image_faults::bad_tag` meets its contract: the first test that passes, else whether a head stands where it may not, or is missing.
-use borrow.Author.Rules.{rules}
 use Rattle.image_contents.proofs.Tests.{tests}
 use Rattle.oce_model.specs.Refusals.{tag_is_bad, bad_tag}
 use Rattle.image_faults.proofs.bad_tag.Goals as goal

@@ -1,5 +1,4 @@
 -- `image_faults::is_text_byte` meets its contract: a byte below 0x20 is none.
-use borrow.Author.Rules.{rules}
 use Rattle.image_contents.proofs.Tests.{tests}
 use Rattle.oce_model.specs.Texts.{is_text_byte}
 use Rattle.image_faults.proofs.is_text_byte.Goals as goal

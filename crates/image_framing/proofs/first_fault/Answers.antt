@@ -1,9 +1,6 @@
 -- `image_framing::first_fault` meets its contract: none of the fields passed is at fault.
-use Prim.Native.Nat.{◌-◌}
-use lib.ListN.{length}
 use borrow.Author.Rules.{rules}
-use Rattle.oce_model.specs.Refusals.{fault}
-use Rattle.image_framing.proofs.Finds.{Seeking, seeking-start, seeking-fits, seeking-turn, seeking-found, seeking-none}
+use Rattle.image_framing.proofs.Finds.{seeking-start, seeking-fits, seeking-turn, seeking-found, seeking-none}
 use Rattle.image_framing.proofs.Walks.{walk-less}
 use Rattle.image_framing.proofs.first_fault.Goals as goal
 

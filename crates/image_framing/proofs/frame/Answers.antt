@@ -1,8 +1,6 @@
 -- `image_framing::frame` meets its contract: what is found is what was found before, then what the rest holds.
-use Prim.Native.Nat.{◌-◌}
-use lib.ListN.{length}
 use borrow.Author.Rules.{rules}
-use Rattle.image_framing.proofs.Finds.{Framing, framing-start, framing-turn, framing-cut, framing-whole}
+use Rattle.image_framing.proofs.Finds.{framing-start, framing-turn, framing-cut, framing-whole}
 use Rattle.image_framing.proofs.Walks.{past_end, within_end, walk-less}
 use Rattle.image_framing.proofs.frame.Goals as goal
 

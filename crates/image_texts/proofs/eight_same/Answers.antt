@@ -1,6 +1,5 @@
 -- `image_texts::eight_same` meets its contract.
 use native.Mathlib.Omega.{arith}
-use borrow.Author.Rules.{rules}
 use Rattle.image_texts.proofs.Eight.{eight-same}
 use Rattle.image_texts.proofs.eight_same.Goals as goal
 

@@ -1,7 +1,7 @@
 -- `image_texts::order_of` meets its contract: the first i bytes, of the n that both have, are equal.
 use mathlib.Core.Path.{◌≡◌, sym, ◌∙◌}
 use mathlib.Core.List.{List}
-use Prim.Native.Nat.{ℕ, ◌+◌, ◌-◌, ◌≤◌, ◌<◌}
+use Prim.Native.Nat.{ℕ, ◌+◌, ◌≤◌, ◌<◌}
 use native.Mathlib.Omega.{arith}
 use lib.ListN.{length, get_or}
 use borrow.Author.Rules.{rules}
@@ -51,7 +51,7 @@ module _ {a b : List ℕ} {n i : ℕ} (v : Scans a b n i) where
     }
 
 pub loop-i-init : goal.loop-i-init
-loop-i-init c = start c.shorter-n.ensures.upper_bound c.shorter-n.ensures.value c.skip_eights-i.ensures
+loop-i-init c = start c.shorter-n.ensures.within c.shorter-n.ensures.exact c.skip_eights-i.ensures
 
 pub returns-then-a-i : goal.returns-then-a-i
 returns-then-a-i c = search (less, rules)

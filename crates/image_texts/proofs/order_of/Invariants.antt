@@ -1,14 +1,9 @@
 -- `image_texts::order_of` meets its contract: the first i bytes, of the n that both have, are equal.
-use mathlib.Core.Path.{◌≡◌, sym, ◌∙◌}
+use mathlib.Core.Path.{◌≡◌}
 use mathlib.Core.List.{List}
-use Prim.Native.Nat.{ℕ, ◌+◌, ◌-◌, ◌≤◌, ◌<◌}
-use native.Mathlib.Omega.{arith}
-use lib.ListN.{length, get_or}
-use borrow.Author.Rules.{rules}
-use Rattle.oce_model.specs.Texts.{order}
+use Prim.Native.Nat.{ℕ, ◌-◌, ◌≤◌, ◌<◌}
+use lib.ListN.{length}
 use Rattle.image_texts.specs.Passed.{Passed}
-use Rattle.oce_model.specs.declared.Ordering.TheVariants.{Less, Equal, Greater}
-use Rattle.image_texts.proofs.Bytewise.{rest-longer, rest-shorter, rest-done, rest-less, rest-greater, rest_more}
 use Rattle.image_texts.proofs.order_of.Given as goal
 
 pub record Scans (a b : List ℕ) (n i : ℕ) : Type 0 where

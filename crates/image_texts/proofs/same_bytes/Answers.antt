@@ -2,7 +2,6 @@
 use mathlib.Core.Path.{◌≡◌, sym, ap, ◌∙◌}
 use mathlib.Core.List.{List}
 use Prim.Native.Nat.{ℕ}
-use borrow.Author.Rules.{rules}
 use Rattle.base.specs.Lists.{same}
 use Rattle.oce_model.specs.Texts.{order, is_equal}
 use Rattle.oce_model.specs.declared.Ordering.{Ordering}

@@ -8,7 +8,6 @@ use lib.ListN.{length, drop}
 use borrow.Author.Rules.{rules}
 use borrow.Author.Tests.{not-false}
 use Rattle.oce_model.specs.Texts.{order}
-use Rattle.image_texts.specs.Passed.{Passed}
 use Rattle.image_texts.proofs.skip_eights.Invariants.{Skips}
 use Rattle.image_texts.proofs.skip_eights.Goals as goal
 

@@ -1,13 +1,6 @@
 -- `image_texts::skip_eights` meets its contract.
-use mathlib.Core.Path.{◌≡◌, refl, ◌∙◌}
-use mathlib.Core.Bool.{Bool, true}
 use mathlib.Core.List.{List}
-use Prim.Native.Nat.{ℕ, ◌+◌, ◌-◌, ◌≤◌}
-use native.Mathlib.Omega.{arith}
-use lib.ListN.{length, drop}
-use borrow.Author.Rules.{rules}
-use borrow.Author.Tests.{not-false}
-use Rattle.oce_model.specs.Texts.{order}
+use Prim.Native.Nat.{ℕ, ◌-◌, ◌≤◌}
 use Rattle.image_texts.specs.Passed.{Passed}
 use Rattle.image_texts.proofs.skip_eights.Given as goal
 

@@ -1,5 +1,4 @@
 -- `oce_capi::oce_check` meets its contract: that of the checking call, with the answer in numbers.
-use borrow.Author.Rules.{rules}
 use mathlib.Core.Path.{ap, ◌∙◌}
 use Rattle.oce_capi.specs.Numbers.{numbers}
 use Rattle.oce_capi.proofs.Laws.{moved_by}
@@ -9,8 +8,8 @@ pub returns : goal.returns
 returns c =
     let e = c.check.ensures in
     record {
-    answer = c.in_numbers.ensures ∙ ap numbers e.answer;
-    filled = e.filled;
-    report = e.report;
-    moved = moved_by e.answer e.moved;
+      answer = c.in_numbers.ensures ∙ ap numbers e.answer;
+      filled = e.filled;
+      report = e.report;
+      moved = moved_by e.answer e.moved;
     }

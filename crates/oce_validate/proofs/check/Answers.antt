@@ -1,5 +1,4 @@
 -- `oce_validate::check` meets its contract: the three equations, and demand 3 by them.
-use borrow.Author.Rules.{rules}
 use native.Mathlib.Omega.{arith}
 use mathlib.Core.Path.{ap}
 use Rattle.outcome.specs.Answer.{numbers_of}
@@ -12,9 +11,9 @@ returns c =
     let each = c.type_inv.image in
     let e = c.check_any.ensures in
     record {
-    answer = e.answer;
-    numbers = ap numbers_of e.answer;
-    filled = e.filled;
-    report = e.report;
-    moved = moved start.image.now start.filled.now start.report.now _ _ _ (λ i. omega (arith, each i)) e.answer e.filled e.report;
+      answer = e.answer;
+      numbers = ap numbers_of e.answer;
+      filled = e.filled;
+      report = e.report;
+      moved = moved start.image.now start.filled.now start.report.now _ _ _ (λ i. omega (arith, each i)) e.answer e.filled e.report;
     }

@@ -9,6 +9,6 @@ overflow_add-result c = search (lines_fit, rules)
 pub returns : goal.returns
 returns c =
     record {
-    value = search (lines-length, rules);
-    out_after = search (lines-behind, rules);
+      length = search (lines-length, rules);
+      out = search (lines-behind, rules);
     }

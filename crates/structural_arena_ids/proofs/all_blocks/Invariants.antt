@@ -1,13 +1,9 @@
 -- `structural_arena_ids::all_blocks` meets its contract: a block a turn.
-use borrow.Author.Rules.{rules}
 use Prim.Native.Nat.{◌-◌}
 use Rattle.oce_diag.specs.Putting.{Emits}
-use Rattle.structural.specs.Structural.{block_faults, connector_faults}
-use Rattle.oce_model.specs.Model.{model_of, block, connector}
-use Rattle.oce_diag.proofs.Putting.{emits_start, emits-turn, emits-put, emits-adds, emits-countable, emits-length}
-use Rattle.image_records.proofs.Laws.{blocks-few}
+use Rattle.structural.specs.Structural.{block_faults}
+use Rattle.oce_model.specs.Model.{model_of, block}
 use Rattle.structural_arena_ids.specs.PerRecord.{most_block_faults}
-use Rattle.structural_arena_ids.proofs.Laws.{block-number}
 use Rattle.structural_arena_ids.proofs.all_blocks.Given as goal
 
 abbrev pub invariant-loop-i : goal.invariant-loop-i

@@ -1,9 +1,6 @@
 -- `structural_arena_ids::port_faults` meets its contract: a port a turn.
 use borrow.Author.Rules.{rules}
-use Prim.Native.Nat.{◌-◌}
-use Rattle.oce_diag.specs.Putting.{Emits}
 use Rattle.oce_diag.proofs.Putting.{emits_start, emits-turn, emits-put, emits-adds, emits-countable, emits-length}
-use Rattle.structural_arena_ids.specs.PerRecord.{port_fault}
 use Rattle.structural_arena_ids.proofs.port_faults.Goals as goal
 
 ruleset mine = (emits_start, emits-turn, emits-put, emits-adds, emits-countable, emits-length, rules)

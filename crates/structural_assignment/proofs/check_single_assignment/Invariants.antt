@@ -1,14 +1,9 @@
 -- `structural_assignment::check_single_assignment` meets its contract: a connector a turn.
-use borrow.Author.Rules.{rules}
 use Prim.Native.Nat.{◌-◌}
 use Rattle.oce_diag.specs.Putting.{Emits}
-use Rattle.oce_diag.proofs.Putting.{emits_start, emits-turn, emits-adds, emits-countable, emits-length}
 use Rattle.structural.specs.Structural.{assignment_faults}
 use Rattle.oce_model.specs.Model.{model_of, connector}
-use Rattle.image_records.proofs.Laws.{connectors-few}
-use Rattle.structural_arena_ids.proofs.Laws.{connector-number}
 use Rattle.structural_assignment.specs.PerRecord.{most_assignment_faults}
-use Rattle.structural_assignment.proofs.Laws.{rule3-put}
 use Rattle.structural_assignment.proofs.check_single_assignment.Given as goal
 
 abbrev pub invariant-loop-i : goal.invariant-loop-i

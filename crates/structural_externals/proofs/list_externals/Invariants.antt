@@ -1,11 +1,9 @@
 -- `structural_externals::list_externals` meets its contract.
-use borrow.Author.Rules.{rules}
 use Prim.Native.Nat.{◌≤◌, ◌-◌}
 use mathlib.Core.Path.{◌≡◌}
 use lib.ListN.{length}
 use Rattle.oce_model.specs.Model.{model_of}
 use Rattle.structural_externals.specs.Columns.{Lists}
-use Rattle.structural_externals.proofs.Laws.{others-room, others-fit, others-few, lists-all}
 use Rattle.structural_externals.proofs.list_externals.Given as goal
 
 abbrev pub invariant-loop-k : goal.invariant-loop-k

@@ -1,13 +1,9 @@
 -- `structural_wiring::check_boundary_outputs` meets its contract: a boundary output a turn.
-use borrow.Author.Rules.{rules}
 use Prim.Native.Nat.{◌-◌}
 use Rattle.oce_diag.specs.Putting.{Emits}
-use Rattle.oce_diag.proofs.Putting.{emits_start, emits-turn, emits-adds, emits-countable, emits-length}
 use Rattle.structural.specs.Structural.{output_faults}
 use Rattle.oce_model.specs.Model.{model_of, boundary_output}
-use Rattle.image_records.proofs.Laws.{boundary-outputs-few}
 use Rattle.structural_wiring.specs.PerRecord.{most_output_faults}
-use Rattle.structural_wiring.proofs.Laws.{rule2-put}
 use Rattle.structural_wiring.proofs.check_boundary_outputs.Given as goal
 
 abbrev pub invariant-loop-i : goal.invariant-loop-i

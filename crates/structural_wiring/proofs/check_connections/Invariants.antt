@@ -1,13 +1,9 @@
 -- `structural_wiring::check_connections` meets its contract: a connection a turn.
-use borrow.Author.Rules.{rules}
 use Prim.Native.Nat.{◌-◌}
 use Rattle.oce_diag.specs.Putting.{Emits}
-use Rattle.oce_diag.proofs.Putting.{emits_start, emits-turn, emits-adds, emits-countable, emits-length}
 use Rattle.structural.specs.Structural.{connection_faults}
 use Rattle.oce_model.specs.Model.{model_of, connection}
-use Rattle.image_records.proofs.Laws.{connections-few}
 use Rattle.structural_wiring.specs.PerRecord.{most_connection_faults}
-use Rattle.structural_wiring.proofs.Laws.{rule4-put}
 use Rattle.structural_wiring.proofs.check_connections.Given as goal
 
 abbrev pub invariant-loop-k : goal.invariant-loop-k

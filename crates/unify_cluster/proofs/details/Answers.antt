@@ -1,8 +1,5 @@
 -- `unify_cluster::details` meets its contract.
 use borrow.Author.Rules.{rules}
-use Prim.Native.Nat.{◌-◌}
-use Rattle.unify_cluster.specs.Clusters.{unified_count}
-use Rattle.unify_cluster.proofs.Laws.{Turns}
 use Rattle.unify_cluster.proofs.Laws.{turns-start, turns-ready, turns-unseen, turns-countable, turns-adds, turns-report, turns_next, turns-done}
 use Rattle.unify_cluster.proofs.details.Goals as goal
 

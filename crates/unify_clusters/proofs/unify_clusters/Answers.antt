@@ -1,5 +1,4 @@
 -- `unify_clusters::unify_clusters` meets its contract.
-use borrow.Author.Rules.{rules}
 use Rattle.unify_clusters.proofs.Laws.{unified-count}
 use Rattle.unify_clusters.proofs.unify_clusters.Goals as goal
 

@@ -1,8 +1,6 @@
 -- `unify_clusters::unify_roots` meets its contract.
-use borrow.Author.Rules.{rules}
 use Prim.Native.Nat.{◌-◌}
 use Rattle.unify_clusters.proofs.Roots.{Roots}
-use Rattle.unify_clusters.proofs.Roots.{roots-start, roots-stage, roots-inside, roots-id, roots-fit, roots-turn, roots-done, roots-adds, roots-countable, roots-report, roots-table, roots-members}
 use Rattle.unify_clusters.proofs.unify_roots.Given as goal
 
 abbrev pub invariant-loop-r : goal.invariant-loop-r

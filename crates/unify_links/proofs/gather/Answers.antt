@@ -1,12 +1,9 @@
 -- `unify_links::gather` meets its contract. The loop knows the root as the first member.
 use borrow.Author.Rules.{rules}
-use Prim.Native.Nat.{◌-◌}
 use mathlib.Core.Path.{◌∙◌}
 use native.Mathlib.Omega.{arith}
-use lib.ListN.{get_or, length-set}
+use lib.ListN.{length-set}
 use lib.Seq.{get_or-set_same}
-use Rattle.oce_model.specs.Model.{model_of}
-use Rattle.unify_links.proofs.Laws.{Gathers}
 use Rattle.unify_links.proofs.Laws.{gathers-start, gathers-link, gathers-room, gathers-next, gathers-turn, gathers-less, gathers-done, gathers-length, links-fit}
 use Rattle.unify_links.proofs.gather.Goals as goal
 

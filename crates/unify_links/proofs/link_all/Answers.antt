@@ -1,7 +1,5 @@
 -- `unify_links::link_all` meets its contract.
 use borrow.Author.Rules.{rules}
-use Rattle.oce_model.specs.Model.{model_of}
-use Rattle.unify_links.proofs.Laws.{Building}
 use Rattle.unify_links.proofs.Laws.{building-start, building-next, building-turn, building-inside, building-done, links-fit}
 use Rattle.unify_links.proofs.link_all.Goals as goal
 

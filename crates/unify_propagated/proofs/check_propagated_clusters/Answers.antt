@@ -1,7 +1,5 @@
 -- `unify_propagated::check_propagated_clusters` meets its contract.
 use borrow.Author.Rules.{rules}
-use Prim.Native.Nat.{◌-◌}
-use Rattle.unify_propagated.proofs.Laws.{Tests}
 use Rattle.unify_propagated.proofs.Laws.{tests-start, tests-stage, tests-inside, tests-countable, tests-id, tests-fit, tests-turn, tests-done, tests-report}
 use Rattle.unify_propagated.proofs.check_propagated_clusters.Goals as goal
 

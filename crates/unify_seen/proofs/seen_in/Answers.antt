@@ -1,9 +1,5 @@
 -- `unify_seen::seen_in` meets its contract.
 use borrow.Author.Rules.{rules}
-use Prim.Native.Nat.{◌-◌}
-use lib.ListN.{length}
-use Rattle.unify_slots.specs.Table.{view}
-use Rattle.unify_seen.specs.Seen.{Sees}
 use Rattle.unify_seen.proofs.Laws.{sees-start, sees-turn, sees-all, member-inside}
 use Rattle.unify_seen.proofs.seen_in.Goals as goal
 

@@ -1,10 +1,5 @@
 -- `unify_settle::all_agree` meets its contract.
 use borrow.Author.Rules.{rules}
-use Prim.Native.Nat.{◌-◌}
-use lib.ListN.{length}
-use Rattle.oce_model.specs.Model.{model_of}
-use Rattle.unify_slots.specs.Table.{view}
-use Rattle.unify_settle.proofs.Laws.{Alike}
 use Rattle.unify_settle.proofs.Laws.{alike-start, alike-turn, alike-differ, alike-done, inside-at}
 use Rattle.unify_settle.proofs.all_agree.Goals as goal
 

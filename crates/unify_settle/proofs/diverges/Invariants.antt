@@ -1,11 +1,9 @@
 -- `unify_settle::diverges` meets its contract.
-use borrow.Author.Rules.{rules}
 use Prim.Native.Nat.{◌+◌, ◌-◌}
 use lib.ListN.{length}
 use Rattle.oce_model.specs.Model.{model_of}
 use Rattle.unify_slots.specs.Table.{view}
 use Rattle.unify_settle.proofs.Laws.{Alike}
-use Rattle.unify_settle.proofs.Laws.{alike-start, alike-turn, alike-differ, alike-done, inside-at, diverges-none, diverges-not, diverges-all, ready-fits}
 use Rattle.unify_settle.proofs.diverges.Given as goal
 
 abbrev pub invariant-loop-i : goal.invariant-loop-i

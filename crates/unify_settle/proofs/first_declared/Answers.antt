@@ -1,9 +1,5 @@
 -- `unify_settle::first_declared` meets its contract.
 use borrow.Author.Rules.{rules}
-use Prim.Native.Nat.{◌-◌}
-use lib.ListN.{length}
-use Rattle.unify_slots.specs.Table.{view}
-use Rattle.unify_settle.proofs.Laws.{Seek}
 use Rattle.unify_settle.proofs.Laws.{seek-start, seek-turn, seek_found, seek-none, inside-at}
 use Rattle.unify_settle.proofs.first_declared.Goals as goal
 

@@ -1,9 +1,7 @@
 -- `unify_settle::put_members` meets its contract.
-use borrow.Author.Rules.{rules}
 use Prim.Native.Nat.{◌-◌}
 use lib.ListN.{length}
 use Rattle.unify_settle.proofs.Laws.{Puts}
-use Rattle.unify_settle.proofs.Laws.{puts-start, puts-turn, puts-done}
 use Rattle.unify_settle.proofs.put_members.Given as goal
 
 abbrev pub invariant-loop-i : goal.invariant-loop-i

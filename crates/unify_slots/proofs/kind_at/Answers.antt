@@ -1,7 +1,6 @@
 -- `unify_slots::kind_at` meets its contract.
 use mathlib.Core.Path.{sym}
 use native.Mathlib.Omega.{arith}
-use borrow.Author.Rules.{rules}
 use Rattle.unify_slots.proofs.Laws.{kind-view}
 use Rattle.unify_slots.proofs.kind_at.Goals as goal
 

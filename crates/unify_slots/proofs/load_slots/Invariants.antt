@@ -1,8 +1,7 @@
 -- `unify_slots::load_slots` meets its contract.
-use borrow.Author.Rules.{rules}
 use Prim.Native.Nat.{◌-◌}
 use Rattle.oce_model.specs.Model.{model_of}
-use Rattle.unify_slots.proofs.Loading.{Loads, loads-start, loads-inside, loads-room, loads-turn, loads-done, counts-fit}
+use Rattle.unify_slots.proofs.Loading.{Loads}
 use Rattle.unify_slots.proofs.load_slots.Given as goal
 
 abbrev pub invariant-loop-j : goal.invariant-loop-j

@@ -1,7 +1,6 @@
 -- `unify_slots::marks_at` meets its contract.
 use mathlib.Core.Path.{sym}
 use native.Mathlib.Omega.{arith}
-use borrow.Author.Rules.{rules}
 use Rattle.unify_slots.proofs.Laws.{marks-view}
 use Rattle.unify_slots.proofs.marks_at.Goals as goal
 

@@ -1,7 +1,6 @@
 -- `unify_slots::number` meets its contract.
 use mathlib.Core.Path.{sym}
 use native.Mathlib.Omega.{arith}
-use borrow.Author.Rules.{rules}
 use Rattle.unify_slots.proofs.Laws.{num-view}
 use Rattle.unify_slots.proofs.number.Goals as goal
 
