@@ -1,13 +1,14 @@
--- Laws of a report that is printed: what a check leaves is a row of the diagnostics that it counts.
-use Prim.Native.Nat.{ℕ}
+-- Laws of a report that is printed, and of fields that are listed, piece by piece.
+use Prim.Native.Nat.{ℕ, ◌+◌, ◌-◌, ◌≤◌, ◌<◌}
 use native.Mathlib.Omega.{arith}
-use mathlib.Core.Path.{◌≡◌}
+use mathlib.Core.Path.{◌≡◌, ap, ◌∙◌}
 use mathlib.Core.Bool.{Bool, true, false, cond}
 use mathlib.Core.List.{List}
 use mathlib.Core.Option.{Option, none, some}
 use lib.Dec.{ltb}
-use lib.ListN.{length, replicate}
+use lib.ListN.{length, replicate, length-replicate}
 use Rattle.base.specs.Buffers.{starts_with}
+use Rattle.oce_model.specs.Format.{longest_image}
 use Rattle.oce_model.specs.Refusals.{Refusal, refusal}
 use Rattle.oce_diag.specs.Diagnostics.{errors, warnings}
 use Rattle.oce_diag.specs.Encoding.{report_bytes}
@@ -16,12 +17,27 @@ use Rattle.outcome.specs.Answer.{report_of, report_size, answer_for, answer, if_
 use Rattle.outcome.specs.declared.Answer.{Answer}
 use Rattle.outcome.specs.declared.Answer.TheVariants.{Refused, Checked}
 use Rattle.printed.proofs.Row.{row-report}
-use Rattle.print_check.specs.Outcome.{longest_report, lent_report, count_of}
-use Rattle.printed.specs.Pieces.{Row}
+use Rattle.print_check.specs.Outcome.{longest_report, lent_report, is_checked, count_of}
+use Rattle.printed.specs.Pieces.{Pieced, Row}
+use Rattle.printed.specs.declared.Piece.{Piece}
+use Rattle.field_lines.specs.Lines as listed
+use Rattle.field_lines.specs.declared.Piece as listed-piece
 
 -- the bytes of a piece
 abbrev pub piece_size : ℕ
 piece_size = 65536
+
+module _ {s report : List ℕ} {from count : ℕ} {b b' : List ℕ} {r : Piece} (p : Pieced s report from count b b' r) where
+  -- fewer lines are left after a piece
+  pub piece-less : length b ≡ piece_size → from < count → count - r.next < count - from
+  piece-less e l = let m : from < r.next = p.moves l (omega arith) in omega (arith, p.within)
+
+  pub piece-within : r.next ≤ count
+  piece-within = p.within
+
+-- the next field to list is in the image
+pub fields_within : {s : List ℕ} {from : ℕ} {b b' : List ℕ} {r : listed-piece.Piece} → listed.Pieced s from b b' r → r.next ≤ length s
+fields_within p = p.within
 
 -- ---- the report that a check leaves is a row of the diagnostics that its answer counts
 
@@ -44,7 +60,25 @@ pub checked-row : (s f b : List ℕ) {a : Answer} {b' : List ℕ} → b' ≡ rep
 unfolding report_after answer
 checked-row s f b e q = rw (e, q) (row-left s b (length f) (length b) (refusal s))
 
+pub counted-row : {a : Answer} {e w : ℕ} {b : List ℕ} → Row b (count_of a) → a ≡ Checked e w → Row b (e + w)
+counted-row {e = e} {w = w} {b = b} r q = rw q at r
+
+-- ---- the answers
+
+pub checked-as : (s : List ℕ) (filled room : ℕ) {a : Answer} {r : Bool} → r ≡ is_checked a → a ≡ answer s filled room → room ≡ longest_report → r ≡ is_checked (answer s filled longest_report)
+checked-as s filled room e q n = e ∙ ap is_checked q ∙ ap (λ (m : ℕ). is_checked (answer s filled m)) n
+
 -- the report that is lent
+pub lent-long : length {A = ℕ} (replicate longest_report 0) ≡ longest_report
+lent-long = length-replicate {A = ℕ} longest_report 0
+
 pub lent-filled : (s f : List ℕ) {g : List ℕ} → g ≡ filled_after s f (replicate longest_report 0) → g ≡ filled_after s f lent_report
 unfolding lent_report
 lent-filled s f e = e
+
+-- fields that were listed are those of an image that isn't too long
+pub listed-not : (n : ℕ) → false ≡ true → n ≤ longest_image
+listed-not n e = let z : ◌≡◌ {A = ℕ} 0 1 = ap (λ (b : Bool). cond {A = ℕ} b 1 0) e in absurd (omega arith)
+
+pub listed-all : {n : ℕ} → n ≤ longest_image → true ≡ true → n ≤ longest_image
+listed-all h e = h
