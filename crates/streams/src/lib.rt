@@ -1,4 +1,5 @@
-// All of a buffer written or read, files whose names are bytes, and a line that says what failed. Nothing is allocated.
+// All of a buffer written or read, files by names of UTF-8 text in bytes, and a line that says what failed. Nothing is
+// allocated.
 #![tactic(auto)]
 
 ghost use Rattle.std.specs.Prelude.{◌≤◌, length, take, OnOk};
