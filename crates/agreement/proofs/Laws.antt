@@ -1,19 +1,18 @@
 -- Laws of the whole comparison.
-use Prim.Native.Nat.{ℕ, suc, ◌+◌, ◌*◌, ◌<◌, ◌≤◌}
+use Prim.Native.Nat.{ℕ, suc, ◌+◌, ◌<◌, ◌≤◌}
 use native.Mathlib.Decide.{dec_lt}
 use native.Mathlib.Omega.{arith}
-use mathlib.Core.Path.{◌≡◌, refl, sym, ap, ◌∙◌}
-use mathlib.Core.Bool.{Bool, true, false, cond, ◌&&◌}
+use mathlib.Core.Path.{◌≡◌, sym, ap, ◌∙◌}
+use mathlib.Core.Bool.{Bool, true, false, ◌&&◌}
 use mathlib.Core.List.{List, ◌∷◌, ◌++◌}
-use lib.Dec.{eqb, ltb}
-use lib.ListN.{length, get_or, take, drop, take-append-drop, length-take, get_or-eq_default}
+use lib.Dec.{eqb}
+use lib.ListN.{length, take, drop, take-append-drop, length-take, get_or-eq_default}
 use lib.Seq.{drop-cons, get_or-take, get_or-drop}
 use borrow.Author.Tests.{lt-ltb, le-ltb, eq-eqb, ne_eqb}
 use Rattle.numbers.specs.Bytes.{word_range, byte, byte_range}
 use Rattle.oce_model.specs.Format.{longest_image}
 use Rattle.oce_model.proofs.Accepted.{accepted}
-use Rattle.oce_diag.specs.Diagnostics.{errors, warnings}
-use Rattle.oce_diag.specs.Encoding.{diagnostic_size, report_bytes}
+use Rattle.oce_diag.specs.Encoding.{report_bytes}
 use Rattle.oce_diag.specs.Decoded.{diagnostic_at, AllFitting}
 use Rattle.oce_diag.specs.declared.Diagnostic.{Diagnostic as OfReport}
 use Rattle.oce_diag.proofs.Diagnostics.{errors-warnings}

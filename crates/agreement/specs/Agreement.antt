@@ -1,5 +1,5 @@
 -- Whether what a check of a stored image gives agrees with the stored answer, and if not, what differs first: docs/STORED_ANSWERS.md, 'What is compared'.
-use Rattle.std.specs.Prelude.{ℕ, ◌<◌, ◌≤◌, ◌≡◌, cond, ◌&&◌, List, eqb, ltb, length, take, drop}
+use Rattle.std.specs.Prelude.{ℕ, ◌≤◌, ◌≡◌, cond, ◌&&◌, List, eqb, ltb, length, take, drop}
 use Rattle.std.proofs.Math.Option.{none}
 use Rattle.oce_model.specs.Format.{longest_image}
 use Rattle.oce_model.specs.Refusals.{refusal}

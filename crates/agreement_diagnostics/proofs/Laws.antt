@@ -2,14 +2,14 @@
 use Prim.Native.Nat.{ℕ, suc, ◌+◌, ◌<◌, ◌≤◌}
 use native.Mathlib.Numerals.{add-one}
 use native.Mathlib.Omega.{arith}
-use mathlib.Core.Path.{◌≡◌, refl, sym, ap, ◌∙◌}
-use mathlib.Core.Bool.{Bool, true, false, cond, ◌&&◌, and-false}
-use mathlib.Core.List.{List, [], ◌∷◌}
+use mathlib.Core.Path.{◌≡◌, refl, sym, ◌∙◌}
+use mathlib.Core.Bool.{Bool, true, false, and-false}
+use mathlib.Core.List.{List}
 use lib.Dec.{eqb}
 use lib.ListN.{length, take, drop, drop_of_length-le}
 use Rattle.base.specs.Lists.{steps, same}
 use Rattle.base.proofs.Lists.{steps_next}
-use Rattle.numbers.specs.Bytes.{byte, le16}
+use Rattle.numbers.specs.Bytes.{le16}
 use Rattle.numbers.proofs.Bytes.{byte_past}
 use Rattle.oce_diag.specs.Encoding.{code_number, subject_kind, subject_number}
 use Rattle.oce_diag.specs.Decoded.{diagnostic_at}
@@ -17,7 +17,7 @@ use Rattle.oce_diag.specs.declared.DiagCode.{DiagCode}
 use Rattle.oce_diag.specs.declared.DiagCode.TheVariants.{MalformedDocument, DirectionMismatch, SingleAssignment, TypeMismatch, UnitQuantityMismatch, BoundMismatch, CrossedBounds, DisplayUnitDivergence}
 use Rattle.oce_diag.specs.declared.Diagnostic.{Diagnostic}
 use Rattle.oce_diag.specs.declared.Subject.{Subject}
-use Rattle.subject.specs.Subject.{least_scratch, scratch_after, part, subject_text}
+use Rattle.subject.specs.Subject.{least_scratch, scratch_after, part}
 use Rattle.subject.proofs.Laws.{read-written}
 use Rattle.agreement_diagnostics.specs.Diagnostics.{code_at, text_length_at, text_at, same_fields, same_subject, agrees, behind, place_of, alike, Reported, Agreed}
 

@@ -6,7 +6,7 @@ use mathlib.Core.Path.{◌≡◌, refl, sym, ap, ◌∙◌}
 use mathlib.Core.Bool.{Bool, true, false, cond, ◌&&◌, and-false}
 use mathlib.Core.List.{List}
 use mathlib.Core.Option.{none}
-use lib.Dec.{eqb, ltb, leb}
+use lib.Dec.{eqb, ltb}
 use lib.ListN.{length, get_or, take, drop, length-take}
 use lib.Seq.{take_at}
 use borrow.Author.Tests.{lt-ltb, le-ltb, le-leb, lt-leb, eq-eqb, ne_eqb, ltb-true, eqb-true}
@@ -16,7 +16,7 @@ use Rattle.base.proofs.Lists.{and_parts, steps_next, tally-next, tally-le}
 use Rattle.base.proofs.Buffers.{patch-length, starts_with-patch}
 use Rattle.numbers.specs.Bytes.{byte, le32}
 use Rattle.oce_model.specs.Format.{connector_tag, boundary_output_tag, attrs_length, longest_image}
-use Rattle.oce_model.specs.Model.{model_of, connector_count, boundary_output_count}
+use Rattle.oce_model.specs.Model.{model_of}
 use Rattle.oce_model.specs.Refusals.{refusal}
 use Rattle.oce_model.proofs.Accepted.{Accepted, accepted, connectors-length, outputs-length}
 use Rattle.image_accept.specs.Layout.{Laid, acceptance, accepts}

@@ -1,5 +1,5 @@
 -- What the functions over one record put, and rule 5 from its parts.
-use Prim.Native.Nat.{ℕ, ◌+◌, ◌≤◌, ◌<◌}
+use Prim.Native.Nat.{ℕ, ◌≤◌, ◌<◌}
 use native.Mathlib.Omega.{arith}
 use mathlib.Core.Path.{◌≡◌, ap, ◌∙◌}
 use mathlib.Core.Bool.{Bool}
@@ -11,7 +11,7 @@ use Rattle.oce_model.specs.Model.{Model, model_of, connector, boundary_input, bo
 use Rattle.oce_model.specs.declared.ConnectorFront.{ConnectorFront}
 use Rattle.oce_model.specs.declared.BoundaryOutputFront.{BoundaryOutputFront}
 use Rattle.oce_diag.specs.Diagnostics.{connector_subject, subject_of, error}
-use Rattle.oce_diag.specs.Putting.{total, Put, Emits}
+use Rattle.oce_diag.specs.Putting.{Put}
 use Rattle.oce_diag.specs.declared.Counted.{Counted}
 use Rattle.oce_diag.specs.declared.Diagnostic.{Diagnostic}
 use Rattle.oce_diag.specs.declared.Subject.{Subject}

@@ -9,7 +9,6 @@ use borrow.Author.Tests.{leb-true, lt-leb}
 use Rattle.numbers.specs.Bytes.{byte, le16}
 use Rattle.oce_model.specs.Format.{leading_bytes}
 use Rattle.oce_model.specs.Image.{field_at, field_end, fields_from, fields, ord_of}
-use Rattle.oce_model.specs.declared.Field.{Field}
 use Rattle.decimal.specs.Appending.{Appended}
 use Rattle.decimal.proofs.Appending.{appended-none, appended_then, appended-start, appended-length}
 use Rattle.reader.specs.Reading.{whole, after_at, step_at}

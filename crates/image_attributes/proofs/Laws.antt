@@ -1,13 +1,11 @@
 -- Attributes from their parts.
 use Prim.Native.Nat.{ℕ, ◌+◌}
-use mathlib.Core.Path.{◌≡◌, refl, ap, ◌∙◌}
+use mathlib.Core.Path.{◌≡◌}
 use mathlib.Core.List.{List}
 use lib.IntN.{ℤ}
 use lib.Ieee.{Float}
 use Rattle.numbers.specs.Bytes.{byte, le16, le64, signed64, real64}
 use Rattle.oce_model.specs.Attributes.{attrs_at}
-use Rattle.oce_model.specs.declared.RealAttrs.{RealAttrs}
-use Rattle.oce_model.specs.declared.IntAttrs.{IntAttrs}
 use Rattle.image_records.specs.Records.{real_attrs, int_attrs}
 
 pub real-parts : (s : List ℕ) (at : ℕ) {m q u d a b c : ℕ} {x y z : Float}

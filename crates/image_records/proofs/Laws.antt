@@ -4,8 +4,8 @@ use native.Mathlib.Nat.{le_refl}
 use native.Mathlib.Omega.{arith}
 use mathlib.Core.Path.{◌≡◌, refl, sym, ap, ◌∙◌}
 use mathlib.Core.Logic.{◌≢◌}
-use mathlib.Core.Bool.{Bool, false, not, ◌||◌}
-use mathlib.Core.List.{List, ◌++◌}
+use mathlib.Core.Bool.{false, not, ◌||◌}
+use mathlib.Core.List.{List}
 use lib.ListN.{length, get_or, drop, length-map, length-append, get_or-append}
 use lib.Dec.{eqb, ltb}
 use borrow.Author.Tests.{eqb-true, ltb-false, not-false}
@@ -19,9 +19,7 @@ use Rattle.oce_model.specs.Image.{field_at, fields, of_tag, start_of}
 use Rattle.oce_model.specs.declared.Field.{Field}
 use Rattle.oce_model.specs.Model.{model_of, ids_at, input_count_at, output_count_at, no_block, block, block_at, connector, connector_at, connection, connection_at, external_input_at, boundary_input, boundary_input_at, boundary_output, boundary_output_at, block_count, connector_count, connection_count, boundary_input_count, boundary_output_count}
 use Rattle.oce_model.specs.Refusals.{bad_length, bad_block_length}
-use Rattle.oce_model.specs.declared.Connection.{Connection}
 use Rattle.oce_model.specs.declared.ConnectorFront.{ConnectorFront}
-use Rattle.oce_model.specs.declared.BoundaryOutputFront.{BoundaryOutputFront}
 use Rattle.oce_model.proofs.Accepted.{Accepted, accepted, fixed-length, connectors-length, connections-length, inputs-length, outputs-length}
 use Rattle.oce_model.proofs.Fields.{none-mem, nth, nth-mem, nth-tag}
 use Rattle.oce_model.proofs.Places.{field-end}

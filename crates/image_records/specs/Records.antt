@@ -3,9 +3,7 @@ use Rattle.std.specs.Prelude.{length}
 use Rattle.numbers.specs.Bytes.{signed64, real64}
 use Rattle.oce_model.specs.Format.{quantity_bit, unit_bit, display_unit_bit, min_bit, max_bit, nominal_bit}
 use Rattle.oce_model.specs.Attributes.{Attrs, num}
-use Rattle.oce_model.specs.Model.{Block, Connector, Connection as ModelConnection, BoundaryInput, BoundaryOutput}
-use Rattle.oce_model.specs.declared.BlockId.{BlockId}
-use Rattle.oce_model.specs.declared.ConnectorId.{ConnectorId}
+use Rattle.oce_model.specs.Model.{Block, Connector, Connection as ModelConnection, BoundaryOutput}
 use Rattle.oce_model.specs.declared.BlockFront.{BlockFront}
 use Rattle.oce_model.specs.declared.ConnectorFront.{ConnectorFront}
 use Rattle.oce_model.specs.declared.Connection.{Connection}

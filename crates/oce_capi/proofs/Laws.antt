@@ -8,7 +8,6 @@ use Rattle.moved.specs.Moved.{Moved}
 use Rattle.batch.specs.declared.BatchAnswer.{BatchAnswer}
 use Rattle.batch.specs.declared.BatchAnswer.TheVariants as batched
 use Rattle.oce_capi.specs.Numbers.{numbers, three_numbers}
-use Rattle.oce_capi.specs.declared.OceAnswer.{OceAnswer}
 use Rattle.oce_capi.specs.declared.OceBatchAnswer.{OceBatchAnswer}
 
 pub numbers-refused : {a : Answer} {number at : ℕ} → a ≡ Refused number at → record { refusal = number; at = at; errors = 0; warnings = 0 } ≡ numbers a

@@ -1,5 +1,4 @@
 -- The answers as a caller in C sees them.
-use Rattle.std.specs.Prelude.{ℕ}
 use Rattle.outcome.specs.declared.Answer.{Answer}
 use Rattle.outcome.specs.declared.Answer.TheVariants.{Refused, Checked}
 use Rattle.batch.specs.declared.BatchAnswer.{BatchAnswer}

@@ -17,7 +17,6 @@ use Rattle.oce_model.specs.Format.{text_tag, shortest_image, longest_image}
 use Rattle.oce_model.specs.Image.{field_end, field_at, ord_of, fields_from, fields, stop, of_tag, first}
 use Rattle.oce_model.specs.declared.Field.{Field}
 use Rattle.oce_model.specs.Refusals.{Refusal, fault, refused_at, refusals_from, refusal}
-use Rattle.oce_diag.specs.Diagnostics.{errors, warnings}
 use Rattle.oce_diag.specs.Encoding.{diagnostic_size}
 use Rattle.outcome.specs.Answer.{report_of, report_size, answer_for, answer}
 use Rattle.batch.specs.Output.{summary_tag, summary_length, summary_size, summary_by, summary_of, summary_bytes, image_output, refusal_place, at_place, errors_place, warnings_place}

@@ -1,8 +1,8 @@
 -- What rule 1 reports of one record, from what was read of it.
 use Prim.Native.Nat.{ℕ, ◌+◌, ◌*◌, ◌<◌, ◌≤◌}
 use native.Mathlib.Omega.{arith}
-use mathlib.Core.Path.{◌≡◌, refl, sym, ap, ◌∙◌}
-use mathlib.Core.Bool.{Bool, not}
+use mathlib.Core.Path.{◌≡◌, ap, ◌∙◌}
+use mathlib.Core.Bool.{not}
 use mathlib.Core.List.{List, ◌++◌, append_assoc}
 use lib.Dec.{eqb, ltb}
 use mir.Syntax.{w32}
@@ -11,10 +11,10 @@ use lib.ListN.{length, get_or}
 use Rattle.base.specs.Lists.{each, only}
 use Rattle.base.proofs.Lists.{each_same, length-tab}
 use Rattle.numbers.specs.Bytes.{le32}
-use Rattle.oce_model.specs.Format.{port_length, block_ports, most_blocks, most_connectors}
+use Rattle.oce_model.specs.Format.{port_length, block_ports}
 use Rattle.oce_model.specs.Model.{Model, Block, Connector, model_of, ids_at, input_count_at, output_count_at, block_at, block, connector, connector_count, is_connector}
 use Rattle.oce_diag.specs.Diagnostics.{connector_subject, subject_of, block_subject, block_subject_of, error}
-use Rattle.oce_diag.specs.Putting.{Put, Emits, total}
+use Rattle.oce_diag.specs.Putting.{Put}
 use Rattle.oce_diag.specs.declared.Counted.{Counted}
 use Rattle.oce_diag.specs.declared.Diagnostic.{Diagnostic}
 use Rattle.oce_diag.specs.declared.Subject.{Subject}

@@ -21,7 +21,7 @@ use Rattle.image_records.proofs.Laws.{externals-counted, externals-few}
 use Rattle.sorting.specs.Sort.{sorted, Ascending}
 use Rattle.sorting.proofs.Laws.{sorted-length, sorted-few}
 use Rattle.sorting.proofs.Sorted.{sorted-ascending, any-sorted}
-use Rattle.structural_externals.specs.Columns.{half, listed_ids, others_count, others, behind, Lists, OthersSorted, Listed}
+use Rattle.structural_externals.specs.Columns.{listed_ids, others_count, others, behind, Lists, OthersSorted, Listed}
 
 -- ---- one id more
 

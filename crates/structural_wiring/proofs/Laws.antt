@@ -1,5 +1,5 @@
 -- What rules 2 and 4 report of one record, from what was read of it.
-use Prim.Native.Nat.{ℕ, ◌+◌, ◌*◌, ◌<◌, ◌≤◌}
+use Prim.Native.Nat.{ℕ, ◌<◌, ◌≤◌}
 use native.Mathlib.Omega.{arith}
 use mathlib.Core.Path.{◌≡◌, sym, ap, ◌∙◌}
 use mathlib.Core.Logic.{◌≢◌}
@@ -11,14 +11,14 @@ use mir.Syntax.{w32}
 use mir.Val.{Fits}
 use Rattle.base.specs.Lists.{only}
 use Rattle.base.proofs.Lists.{and_parts}
-use Rattle.oce_model.specs.Format.{dir_in, most_boundary_outputs, most_connections}
+use Rattle.oce_model.specs.Format.{dir_in}
 use Rattle.oce_model.specs.Attributes.{attrs_at}
 use Rattle.oce_model.specs.Model.{BoundaryOutput, Model, model_of, connector, connection, boundary_output, connector_count}
 use Rattle.oce_model.specs.declared.ConnectorFront.{ConnectorFront}
 use Rattle.oce_model.specs.declared.Connection.{Connection}
 use Rattle.oce_model.specs.declared.BoundaryOutputFront.{BoundaryOutputFront}
 use Rattle.oce_diag.specs.Diagnostics.{connector_subject, subject_of, error}
-use Rattle.oce_diag.specs.Putting.{Put, Emits, total}
+use Rattle.oce_diag.specs.Putting.{Put, Emits}
 use Rattle.oce_diag.specs.declared.Counted.{Counted}
 use Rattle.oce_diag.specs.declared.Diagnostic.{Diagnostic}
 use Rattle.oce_diag.specs.declared.Subject.{Subject}

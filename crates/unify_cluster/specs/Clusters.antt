@@ -1,5 +1,5 @@
 -- What the code's steps give for one cluster of rule 6 (FORMAT 16): the table, and the report, a buffer b in which c were counted that has become b' with c'.
-use Rattle.std.specs.Prelude.{ℕ, ◌+◌, ◌≤◌, ◌≡◌, false, List, []}
+use Rattle.std.specs.Prelude.{ℕ, ◌+◌, ◌≡◌, false, List, []}
 use Rattle.oce_model.specs.Model.{Model}
 use Rattle.oce_diag.specs.declared.Counted.{Counted}
 use Rattle.oce_diag.specs.Putting.{Adds, Put}

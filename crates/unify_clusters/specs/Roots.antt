@@ -1,5 +1,5 @@
 -- What the code's steps ask and give over the roots of rule 6 (FORMAT 16).
-use Rattle.std.specs.Prelude.{ℕ, ◌+◌, ◌*◌, ◌≤◌, ◌<◌, ◌≡◌, List, length}
+use Rattle.std.specs.Prelude.{ℕ, ◌*◌, ◌<◌, ◌≡◌, List, length}
 use Rattle.oce_model.specs.Format.{text_tag, most_connectors}
 use Rattle.oce_model.specs.Model.{Model, model_of, connector_count}
 use Rattle.image_accept.specs.Layout.{Laid, Tabled}

@@ -1,5 +1,5 @@
 -- What the code gives for all of rule 6 (FORMAT 16).
-use Rattle.std.specs.Prelude.{ℕ, ◌+◌, ◌*◌, ◌≤◌, ◌≡◌, List, ltb}
+use Rattle.std.specs.Prelude.{ℕ, ◌+◌, ◌*◌, ◌≡◌, List, ltb}
 use Rattle.oce_model.specs.Format.{most_connections, most_boundary_outputs, most_connectors}
 use Rattle.oce_model.specs.Model.{Model, connector_count}
 use Rattle.oce_diag.specs.declared.Counted.{Counted}
