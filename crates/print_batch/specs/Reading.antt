@@ -1,4 +1,4 @@
--- A batch that the program reads: which it takes, how that ends, and what it leaves in the output. FORMAT 23. What is read and written has no definition: the language can't say it.
+-- A batch that the program reads: which it takes, how that ends, and what it leaves in the output. FORMAT 23. What is read and written has no definition here.
 use Rattle.std.specs.Prelude.{ℕ, ◌≡◌, Bool, cond, List, ltb, length, take}
 use Rattle.batch.specs.Answer.{output_after}
 use Rattle.print_check.specs.declared.Input.{Input}
