@@ -9,8 +9,8 @@ use oce_model::LONGEST_IMAGE;
 use print_batch::{Ending, print_batch_from};
 use print_check::{Input, print_check, print_fields, read_image};
 use std::env::{Env, FillError};
-use std::io::Error;
-use streams::{create, fail, open_read, read_full, unlink, write_all};
+use std::io::{Error, Write};
+use streams::{create, fail, open_read, read_full, unlink};
 
 // One byte more than the longest image, to notice one that is longer.
 const READ: usize = LONGEST_IMAGE + 1;
@@ -21,7 +21,7 @@ const LONGEST_NAME: usize = 4096;
 // ---- what is said; that it can't be written stops nothing
 
 fn print(rt: &HostRuntime, text: &[u8]) {
-    let _ = write_all(&mut rt.stdout(), text);
+    let _ = rt.stdout().write_all(text);
 }
 
 fn print_help(rt: &HostRuntime) {
@@ -70,9 +70,9 @@ fn print_help(rt: &HostRuntime) {
 
 fn complain(rt: &HostRuntime, text: &[u8]) {
     let mut errors = rt.stderr();
-    let _ = write_all(&mut errors, b"oce_check: ");
-    let _ = write_all(&mut errors, text);
-    let _ = write_all(&mut errors, b"\n");
+    let _ = errors.write_all(b"oce_check: ");
+    let _ = errors.write_all(text);
+    let _ = errors.write_all(b"\n");
 }
 
 fn complain_of(rt: &HostRuntime, what: &[u8], why: Error) {
@@ -98,7 +98,7 @@ fn arg_count(rt: &HostRuntime) -> usize {
 fn write_filled(rt: &HostRuntime, name: &[u8], filled: &[u8]) {
     match create(rt, name) {
         Ok(mut file) => {
-            if let Err(why) = write_all(&mut file, filled) {
+            if let Err(why) = file.write_all(filled) {
                 complain_of(rt, name, why);
                 let _ = unlink(rt, name);
             }
@@ -140,7 +140,7 @@ fn check_image(rt: &HostRuntime, image: &[u8], i: usize) {
 
 fn check_stdin(rt: &HostRuntime) {
     let mut bytes = [0u8; READ];
-    let n = read_full(&mut rt.stdin(), &mut bytes);
+    let n = read_full(&mut rt.stdin(), &mut bytes).length;
     check_image(rt, &bytes[..n], 1);
 }
 

@@ -26,7 +26,6 @@ use printed_batch::{
     summary_in,
 };
 use std::io::{Error, Read, Write};
-use streams::write_all;
 
 // An output that is printed is shorter than this, so that each of its counts has room in four bytes.
 const LONG_OUTPUT: usize = 4294967296;
@@ -43,7 +42,7 @@ const READ_OUTPUT: usize = 2097152;
 fn print_refusal<W: Write>(to: &mut W, number: u32, at: usize) -> bool {
     let mut out = [0u8; LONGEST_REFUSAL_LINE];
     let n = refusal_line(number, at, &mut out);
-    write_all(to, part_of(&out, 0, n)).is_ok()
+    to.write_all(part_of(&out, 0, n)).is_ok()
 }
 
 // ---- one image
@@ -52,7 +51,7 @@ fn print_refusal<W: Write>(to: &mut W, number: u32, at: usize) -> bool {
 fn print_first<W: Write>(to: &mut W, i: u32, answer: Answer) -> bool {
     let mut out = [0u8; LONGEST_IMAGE_LINES];
     let n = image_lines(i, answer, &mut out);
-    write_all(to, part_of(&out, 0, n)).is_ok()
+    to.write_all(part_of(&out, 0, n)).is_ok()
 }
 
 // Prints the lines of an accepted image's diagnostics, as many as count says.

@@ -18,7 +18,7 @@ use outcome::Answer;
 use printed::{LONGEST_FIRST_LINE, first_line, put_lines};
 use std::fs::Files;
 use std::io::{Error, Read, Write};
-use streams::{fail, open_read, read_full, write_all};
+use streams::{Stop, fail, open_read, read_full};
 
 // The bytes of a piece.
 const PIECE: usize = 65536;
@@ -41,7 +41,7 @@ pub fn print_lines<'a, W: Write>(
     let mut next = 0;
     while next < count {
         let piece = put_lines(image, layout, texts, report, next, count, &mut out);
-        if write_all(to, part_of(&out, 0, piece.length)).is_err() {
+        if to.write_all(part_of(&out, 0, piece.length)).is_err() {
             return false;
         }
         next = piece.next;
@@ -68,7 +68,7 @@ fn print_report<'a, W: Write>(to: &mut W, image: &'a [u8], report: &'a [u8], cou
 fn print_first<W: Write>(to: &mut W, answer: Answer) -> bool {
     let mut out = [0u8; LONGEST_FIRST_LINE];
     let n = first_line(answer, &mut out);
-    write_all(to, part_of(&out, 0, n)).is_ok()
+    to.write_all(part_of(&out, 0, n)).is_ok()
 }
 
 // Prints an answer, and the diagnostics of a report that it counts.
@@ -145,7 +145,7 @@ pub fn print_fields<W: Write>(to: &mut W, image: &[u8]) -> bool
         if piece.next <= at {
             return true;
         }
-        if write_all(to, part_of(&out, 0, piece.length)).is_err() {
+        if to.write_all(part_of(&out, 0, piece.length)).is_err() {
             return false;
         }
         at = piece.next;
@@ -163,14 +163,11 @@ pub enum Input {
 pub fn read_from<R: Read>(from: &mut R, image: &mut [u8]) -> Input
     ensures { read_length result ≤ length image.new }
 {
-    let n = read_full(from, image);
-    if n == 0 {
-        let mut more = [0u8; 1];
-        if let Err(why) = from.read(&mut more) {
-            return Input::Unreadable(why);
-        }
+    let front = read_full(from, image);
+    match front.stop {
+        Stop::Failed(why) if front.length == 0 => Input::Unreadable(why),
+        _ => Input::Bytes(front.length),
     }
-    Input::Bytes(n)
 }
 
 // Reads a file to the start of a buffer, as much of it as that holds; says why if it can't be read.

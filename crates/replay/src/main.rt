@@ -228,7 +228,7 @@ fn replay_file<R: Files + Print>(rt: &R, name: &[u8]) -> Sum {
     match open_read(rt, name) {
         Ok(mut from) => {
             let mut file = [0u8; LONGEST_FILE + 1];
-            let n = read_full(&mut from, &mut file);
+            let n = read_full(&mut from, &mut file).length;
             if n == 0 {
                 return fail(rt, name, b" is empty or can't be read");
             }

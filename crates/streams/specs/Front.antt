@@ -1,7 +1,12 @@
--- What a write that may stop half-way leaves of a writer's bytes, where those are known.
-use Rattle.std.specs.Prelude.{ℕ, List, Option, take}
-use Rattle.std.specs.Io.KnownBytes.{Appends}
+-- Why a buffer that was filled from a reader has no more of it.
+use Rattle.std.specs.Prelude.{ℕ, ◌≡◌, List, Option, ⊤}
+use Rattle.std.specs.Io.KnownBytes.{IsAtEnd}
+use Rattle.streams.specs.declared.Stop.{Stop}
+use Rattle.streams.specs.declared.Stop.TheVariants.{Full, AtEnd, Failed}
 
--- they grow by some bytes from the front of bs
-abbrev pub AppendsFront : Option (List ℕ) → Option (List ℕ) → List ℕ → Type 0
-AppendsFront old new bs = (n : ℕ) × Appends old new (take n bs)
+-- n bytes were read to a buffer of that length, and left are the reader's known bytes: there is no room any more, or no byte is left;
+-- of a failed read nothing is known
+abbrev pub StopsFor : Stop → ℕ → ℕ → Option (List ℕ) → Type 0
+StopsFor Full n room left = n ≡ room
+StopsFor AtEnd n room left = IsAtEnd left
+StopsFor (Failed why) n room left = ⊤

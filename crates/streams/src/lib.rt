@@ -1,50 +1,62 @@
-// All of a buffer written or read, files by names of UTF-8 text in bytes, and a line that says what failed. Nothing is
-// allocated.
+// What the program needs of files beyond std's calls: a buffer filled from a reader, files by names of UTF-8 text in
+// bytes, and a line that says what failed. Nothing is allocated.
 #![tactic(auto)]
 
 ghost use Rattle.std.specs.Prelude.{◌≤◌, length, take, OnOk};
-ghost use Rattle.std.specs.Io.KnownBytes.{Appends, Consumes};
-ghost use Rattle.streams.specs.Front.{AppendsFront};
+ghost use Rattle.std.specs.Io.KnownBytes.{Consumes};
+ghost use Rattle.streams.specs.Front.{StopsFor};
+ghost use Rattle.streams.specs.Complaint.{Complains};
 
 use base::part_of;
 use std::fs::{File, Files, OpenOptions};
-use std::io::{Error, ErrorKind, Read, Write};
+use std::io::{Error, Read, Write};
 use std::{fs, io};
 
-// ---- bytes
+// ---- a buffer filled
 
-// Writes all of the bytes, or stops at the first write that takes nothing or fails, when some of them may have
-// been written. For no bytes it makes no call.
-pub fn write_all<W: Write>(to: &mut W, bytes: &[u8]) -> io::Result<()>
-    ensures all { OnOk result (Appends (W.contents to.old) (W.contents to.new) bytes.now) }
-    ensures some { AppendsFront (W.contents to.old) (W.contents to.new) bytes.now }
-{
-    let mut done = 0;
-    while done < bytes.len() {
-        match to.write(&bytes[done..]) {
-            Ok(0) => return Err(Error::from(ErrorKind::WriteZero)),
-            Ok(n) => done += n,
-            Err(why) => return Err(why),
-        }
-    }
-    Ok(())
+// Why no more was read.
+#[derive(Clone, Copy)]
+pub enum Stop {
+    Full,
+    AtEnd,
+    Failed(Error),
 }
 
-// Reads until the buffer is full, the input ends or a read fails, and returns how many bytes it put at the
-// start of the buffer. For an empty buffer it makes no call.
-pub fn read_full<R: Read>(from: &mut R, buffer: &mut [u8]) -> usize
-    ensures within { result ≤ length buffer.new }
-    ensures bytes { Consumes (R.remaining from.old) (R.remaining from.new) (take result buffer.new) }
+// How many bytes of a buffer were read, from its start on, and why no more.
+#[derive(Clone, Copy)]
+pub struct Front {
+    pub length: usize,
+    pub stop: Stop,
+}
+
+// Fills a buffer, in as many reads as it takes. What a failed read leaves behind the front isn't known.
+pub fn read_full<R: Read>(from: &mut R, buffer: &mut [u8]) -> Front
+    ensures within { result.length ≤ length buffer.new }
+    ensures bytes { Consumes (R.remaining from.old) (R.remaining from.new) (take result.length buffer.new) }
+    ensures stop { StopsFor result.stop result.length (length buffer.new) (R.remaining from.new) }
 {
     let mut done = 0;
     while done < buffer.len() {
         match from.read(&mut buffer[done..]) {
-            Ok(0) => return done,
+            Ok(0) => {
+                return Front {
+                    length: done,
+                    stop: Stop::AtEnd,
+                };
+            }
             Ok(n) => done += n,
-            Err(_) => return done,
+            Err(why) => {
+                return Front {
+                    length: done,
+                    stop: Stop::Failed(why),
+                };
+            }
         }
     }
-    done
+    Front {
+        length: done,
+        stop: Stop::Full,
+    }
 }
 
 // ---- what failed
@@ -74,13 +86,15 @@ fn words_of(message: &[u8]) -> &[u8] {
 }
 
 // Writes a line: what failed, as the caller names it, a colon and why.
-pub fn fail<W: Write>(to: &mut W, what: &[u8], error: Error) -> io::Result<()> {
+pub fn fail<W: Write>(to: &mut W, what: &[u8], error: Error) -> io::Result<()>
+    ensures { OnOk result (Complains (W.contents to.old) (W.contents to.new) what.now) }
+{
     let mut text = [0u8; LONGEST_MESSAGE];
     let n = put_message(&mut text, error);
-    write_all(to, what)?;
-    write_all(to, b": ")?;
-    write_all(to, words_of(part_of(&text, 0, n)))?;
-    write_all(to, b"\n")
+    to.write_all(what)?;
+    to.write_all(b": ")?;
+    to.write_all(words_of(part_of(&text, 0, n)))?;
+    to.write_all(b"\n")
 }
 
 // ---- files
