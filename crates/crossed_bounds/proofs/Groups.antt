@@ -9,8 +9,8 @@ use Rattle.base.proofs.Lists.{keep_append, same_refl, same-sound}
 use Rattle.base.proofs.Members.{mem-each, mem-only}
 use Rattle.oce_model.specs.Texts.{order, is_equal}
 use Rattle.oce_model.specs.Model.{Model, connector, connector_count}
-use Rattle.oce_model.specs.declared.Ordering.{Ordering}
-use Rattle.oce_model.specs.declared.Ordering.TheVariants.{Less, Equal, Greater}
+use Rattle.std.specs.declared.cmp.Ordering.{Ordering}
+use Rattle.std.specs.declared.cmp.Ordering.TheVariants.{Less, Equal, Greater}
 use Rattle.oce_model.proofs.Order.{order_flip, flip, order-equal, less-less, equal-same, less-differs}
 use Rattle.crossed_bounds.specs.Groups.{Group, members, alone, joined, by_order, enter, enter_all, extend, extend_all, with_key, KeysBehind, KeysAscend}
 use Rattle.crossed_bounds.specs.CrossedBounds.{member_key, joins, connector_members, input_members, groups}

@@ -3,8 +3,8 @@
 use Rattle.std.specs.Prelude.{ℕ, ◌≡◌, cond, List, [], ◌∷◌, ◌++◌}
 use Rattle.base.specs.Lists.{keep, same}
 use Rattle.oce_model.specs.Texts.{order, is_equal}
-use Rattle.oce_model.specs.declared.Ordering.{Ordering}
-use Rattle.oce_model.specs.declared.Ordering.TheVariants.{Less, Equal, Greater}
+use Rattle.std.specs.declared.cmp.Ordering.{Ordering}
+use Rattle.std.specs.declared.cmp.Ordering.TheVariants.{Less, Equal, Greater}
 
 -- a group: its members in the order in which they joined
 pub record Group : Type 0 where

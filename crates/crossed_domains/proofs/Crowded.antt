@@ -12,8 +12,8 @@ use Rattle.base.specs.Lists.{each, steps, any, only, keep}
 use Rattle.base.proofs.Lists.{any_append}
 use Rattle.oce_model.specs.Texts.{order}
 use Rattle.oce_model.specs.Model.{Model}
-use Rattle.oce_model.specs.declared.Ordering.{Ordering}
-use Rattle.oce_model.specs.declared.Ordering.TheVariants.{Less, Equal, Greater}
+use Rattle.std.specs.declared.cmp.Ordering.{Ordering}
+use Rattle.std.specs.declared.cmp.Ordering.TheVariants.{Less, Equal, Greater}
 use Rattle.sorting.specs.Sort.{sorted}
 use Rattle.crossed_sort.specs.Sort.{goes_first}
 use Rattle.oce_model.proofs.Order.{order-equal}

@@ -4,8 +4,8 @@ use mathlib.Core.Bool.{Bool, false, cond}
 use mathlib.Core.List.{List, [], ◌∷◌, ◌++◌}
 use Prim.Native.Nat.{ℕ}
 use Rattle.oce_model.specs.Texts.{order, is_equal}
-use Rattle.oce_model.specs.declared.Ordering.{Ordering}
-use Rattle.oce_model.specs.declared.Ordering.TheVariants.{Less, Equal, Greater}
+use Rattle.std.specs.declared.cmp.Ordering.{Ordering}
+use Rattle.std.specs.declared.cmp.Ordering.TheVariants.{Less, Equal, Greater}
 use Rattle.oce_model.proofs.Order.{order-equal}
 use Rattle.crossed_bounds.specs.Groups.{Group, members, alone, joined, by_order, enter, enter_all, extend, extend_all, KeysBehind, KeysAscend}
 use Rattle.crossed_bounds.proofs.Groups.{behind-less, enter-ascends}

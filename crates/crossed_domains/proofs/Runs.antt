@@ -5,8 +5,8 @@ use mathlib.Core.List.{List, [], ◌∷◌}
 use Prim.Native.Nat.{ℕ}
 use native.Mathlib.Omega.{arith}
 use Rattle.oce_model.specs.Texts.{order, is_less, is_equal}
-use Rattle.oce_model.specs.declared.Ordering.{Ordering}
-use Rattle.oce_model.specs.declared.Ordering.TheVariants.{Less, Equal, Greater}
+use Rattle.std.specs.declared.cmp.Ordering.{Ordering}
+use Rattle.std.specs.declared.cmp.Ordering.TheVariants.{Less, Equal, Greater}
 use Rattle.oce_model.proofs.Order.{order_flip, flip, order-equal}
 use Rattle.sorting.specs.Sort.{insert, insert_all, sorted, Rising, InOrder}
 use Rattle.sorting.proofs.Sorted.{insert-in-order}

@@ -12,7 +12,8 @@ ghost use Rattle.image_texts.specs.Passed.{Passed};
 use base::part_of;
 use image_accept::Layout;
 use numbers::{at16, read64};
-use oce_model::{FIELD_LENGTH_AT, LEADING_BYTES, Ordering};
+use oce_model::{FIELD_LENGTH_AT, LEADING_BYTES};
+use std::cmp::Ordering;
 
 // ---- byte strings
 

@@ -2,6 +2,7 @@
 pub mod Diagnostics
 pub mod Encoding
 pub mod Putting
+pub mod Reporting
 pub mod Computed
 -- The diagnostics that a report's bytes stand for.
 pub mod Decoded

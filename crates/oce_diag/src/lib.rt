@@ -9,6 +9,10 @@ ghost use Rattle.oce_diag.specs.Putting.{put_one, total, Put, Countable, Adds};
 ghost use Rattle.numbers.specs.Bytes.{short_range, word_range, byte, long_range};
 ghost use Rattle.oce_diag.specs.Decoded.{severity_of, code_of, subject_from, decoded_at, diagnostic_at};
 
+mod report;
+
+pub use report::Report;
+
 use base::copy_at;
 use numbers::{BYTE_RANGE_U32, at32, byte_at};
 use oce_model::{BlockId, ConnectorId, LEADING_BYTES, NO_TEXT};

@@ -1,14 +1,13 @@
 -- Attributes: 32 bytes of the image, and what they declare. FORMAT 4; the Rust's `Attrs`, `RealAttrs` and `IntAttrs`.
 use Rattle.std.specs.Prelude.{ℕ, ◌+◌, ◌^◌, Bool, true, false, List, [], ◌∷◌, ◌++◌, get_or, set}
 use Rattle.std.proofs.Math.Option.{Option, none, some}
-use Rattle.numbers.specs.Bytes.{byte, le16, le64, le_bytes, bit}
+use Rattle.numbers.specs.Bytes.{byte, le16, le64, le_bytes, bit, signed64, real64}
 use Rattle.oce_model.specs.Format.{quantity_bit, unit_bit, display_unit_bit, min_bit, max_bit, nominal_bit, attrs_marks_at, attrs_quantity_at, attrs_unit_at, attrs_display_unit_at, attrs_min_at, attrs_max_at, attrs_nominal_at}
+use Rattle.oce_model.specs.declared.RealAttrs.{RealAttrs}
+use Rattle.oce_model.specs.declared.IntAttrs.{IntAttrs}
 
 -- `marks` is the byte of set bits. `nums` has a number for each of the bits 0 to 5: quantity, unit, display unit (text numbers), min, max, nominal (64 bit patterns).
-pub record Attrs : Type 0 where
-  pub kind : ℕ
-  pub marks : ℕ
-  pub nums : List ℕ
+pub use Rattle.oce_model.specs.declared.Attrs.{Attrs}
 
 -- nothing is declared
 unfoldable pub no_attrs : Attrs
@@ -46,3 +45,19 @@ declared_at a p = marked (bit a.marks p) (num a p)
 -- the number v declared under bit p, where nothing was
 unfoldable pub declare_at : Attrs → ℕ → ℕ → Attrs
 declare_at a p v = record { kind = a.kind; marks = a.marks + 2 ^ p; nums = set a.nums p v }
+
+-- Real attributes: min, max and nominal as binary64 numbers, with the text numbers beside them. FORMAT 4; the Rust's `RealAttrs`
+unfoldable pub real_attrs : Attrs → RealAttrs
+real_attrs a = record {
+  marks = a.marks;
+  quantity = num a quantity_bit;
+  unit = num a unit_bit;
+  display = num a display_unit_bit;
+  min = real64 (num a min_bit);
+  max = real64 (num a max_bit);
+  nominal = real64 (num a nominal_bit);
+}
+
+-- Integer attributes, the Rust's `IntAttrs`
+unfoldable pub int_attrs : Attrs → IntAttrs
+int_attrs a = record { marks = a.marks; min = signed64 (num a min_bit); max = signed64 (num a max_bit) }

@@ -2,8 +2,8 @@
 use Rattle.std.specs.Prelude.{ℕ, ◌+◌, Bool, true, false, cond, ◌&&◌, List, [], ◌∷◌, take, drop, leb, ltb}
 use Rattle.oce_model.specs.Format.{leading_bytes, first_text_byte, last_text_byte}
 use Rattle.oce_model.specs.Image.{Field}
-use Rattle.oce_model.specs.declared.Ordering.{Ordering}
-use Rattle.oce_model.specs.declared.Ordering.TheVariants.{Less, Equal, Greater}
+use Rattle.std.specs.declared.cmp.Ordering.{Ordering}
+use Rattle.std.specs.declared.cmp.Ordering.TheVariants.{Less, Equal, Greater}
 
 -- a byte that a text may hold
 unfoldable pub is_text_byte : ℕ → Bool

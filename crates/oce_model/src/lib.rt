@@ -1,13 +1,11 @@
 // The records of a model, as oce-model has them, and the fields of an image.
 #![tactic(auto)]
 
-// How one byte string stands to another, as Rust's `Ordering`.
-#[derive(Clone, Copy)]
-pub enum Ordering {
-    Less,
-    Equal,
-    Greater,
-}
+ghost use Rattle.std.specs.Prelude.{◌≡◌, ◌<◌};
+ghost use Rattle.numbers.specs.Bytes.{bit};
+ghost use Rattle.oce_model.specs.Attributes.{num, real_attrs, int_attrs};
+
+use numbers::{int_of_bits, is_set, real_of_bits};
 
 // A field of an image: the offset of its tag, the tag, the length of its contents, the tag of the field
 // before (0 for the first), and how many fields with its tag stand right before it. Where tags don't
@@ -57,6 +55,35 @@ pub struct BoundaryOutputFront {
     pub source: ConnectorId,
 }
 
+// A connector's direction, by the numbers of FORMAT 3: the Rust's `Dir`.
+#[derive(Clone, Copy, PartialEq, Eq, Debug)]
+pub enum Dir {
+    In,
+    Out,
+}
+
+// Types and kinds of attributes, by the numbers of FORMAT 3.
+#[derive(Clone, Copy, PartialEq, Eq, Debug)]
+pub enum Kind {
+    Real,
+    Integer,
+    Boolean,
+    String,
+    Enum,
+}
+
+// How many numbers a set of attributes has: one for each of the bits 0 to 5.
+pub const NUMBER_COUNT: usize = 6;
+
+// A set of attributes as an image has it, the Rust's `Attrs`: its kind, the byte of set bits, and the
+// numbers of the bits 0 to 5, where the first three are text numbers and the others 64 bit patterns.
+#[derive(Clone, Copy)]
+pub struct Attrs {
+    pub kind: u8,
+    pub marks: u8,
+    pub nums: [u64; NUMBER_COUNT],
+}
+
 // The Rust's `RealAttrs`: marks says what is set, texts are numbers.
 #[derive(Clone, Copy)]
 pub struct RealAttrs {
@@ -82,6 +109,52 @@ pub struct IntAttrs {
 pub struct Connection {
     pub from: ConnectorId,
     pub to: ConnectorId,
+}
+
+// ---- what attributes say
+
+impl Attrs {
+    // Bit p is set.
+    pub fn is_marked(&self, p: usize) -> bool
+        requires { p < 8 }
+        ensures { result ≡ bit self.now.marks p }
+    {
+        is_set(usize::from(self.marks), p)
+    }
+
+    // The number under bit p.
+    pub fn number(&self, p: usize) -> u64
+        requires { p < NUMBER_COUNT }
+        ensures { result ≡ num self.now p }
+    {
+        self.nums[p]
+    }
+
+    // As Real attributes.
+    pub fn real(&self) -> RealAttrs
+        ensures { result ≡ real_attrs self.now }
+    {
+        RealAttrs {
+            marks: usize::from(self.marks),
+            quantity: self.nums[QUANTITY_BIT] as usize,
+            unit: self.nums[UNIT_BIT] as usize,
+            display: self.nums[DISPLAY_UNIT_BIT] as usize,
+            min: real_of_bits(self.nums[MIN_BIT]),
+            max: real_of_bits(self.nums[MAX_BIT]),
+            nominal: real_of_bits(self.nums[NOMINAL_BIT]),
+        }
+    }
+
+    // As Integer attributes.
+    pub fn integer(&self) -> IntAttrs
+        ensures { result ≡ int_attrs self.now }
+    {
+        IntAttrs {
+            marks: usize::from(self.marks),
+            min: int_of_bits(self.nums[MIN_BIT]),
+            max: int_of_bits(self.nums[MAX_BIT]),
+        }
+    }
 }
 
 // ---- the numbers of the format that code cites, by the names of specs/Format.antt

@@ -8,8 +8,8 @@ use mathlib.Core.List.Memᴰ
 use mathlib.Core.List.{List, [], ◌∷◌, Memᴰ}
 use lib.ListN.{length, length-append}
 use Rattle.oce_model.specs.Texts.{order, is_equal}
-use Rattle.oce_model.specs.declared.Ordering.{Ordering}
-use Rattle.oce_model.specs.declared.Ordering.TheVariants.{Less, Equal, Greater}
+use Rattle.std.specs.declared.cmp.Ordering.{Ordering}
+use Rattle.std.specs.declared.cmp.Ordering.TheVariants.{Less, Equal, Greater}
 use Rattle.crossed_bounds.specs.Groups.{Group, members, alone, joined, by_order, enter, enter_all, extend, extend_all}
 
 -- each group has at most k members

@@ -7,7 +7,7 @@ use lib.ListN.{length, get_or}
 use borrow.Author.Rules.{rules}
 use Rattle.oce_model.specs.Texts.{order}
 use Rattle.image_texts.specs.Passed.{Passed}
-use Rattle.oce_model.specs.declared.Ordering.TheVariants.{Less, Equal, Greater}
+use Rattle.std.specs.declared.cmp.Ordering.TheVariants.{Less, Equal, Greater}
 use Rattle.image_texts.proofs.Bytewise.{rest-longer, rest-shorter, rest-done, rest-less, rest-greater, rest_more}
 use Rattle.image_texts.proofs.order_of.Invariants.{Scans}
 use Rattle.image_texts.proofs.order_of.Goals as goal

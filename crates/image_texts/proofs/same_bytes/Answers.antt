@@ -4,7 +4,7 @@ use mathlib.Core.List.{List}
 use Prim.Native.Nat.{ℕ}
 use Rattle.base.specs.Lists.{same}
 use Rattle.oce_model.specs.Texts.{order, is_equal}
-use Rattle.oce_model.specs.declared.Ordering.{Ordering}
+use Rattle.std.specs.declared.cmp.Ordering.{Ordering}
 use Rattle.oce_model.proofs.Order.{equal-same}
 use Rattle.image_texts.proofs.Bytewise.{same_length}
 use Rattle.image_texts.proofs.same_bytes.Goals as goal

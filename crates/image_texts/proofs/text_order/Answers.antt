@@ -4,7 +4,7 @@ use Prim.Native.Nat.{ℕ}
 use borrow.Author.Rules.{rules}
 use Rattle.oce_model.specs.Texts.{order}
 use Rattle.oce_model.specs.Model.{Model, text}
-use Rattle.oce_model.specs.declared.Ordering.TheVariants.{Equal}
+use Rattle.std.specs.declared.cmp.Ordering.TheVariants.{Equal}
 use Rattle.oce_model.proofs.Order.{order-refl}
 use Rattle.image_texts.proofs.text_order.Goals as goal
 
