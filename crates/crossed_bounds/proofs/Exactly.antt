@@ -18,7 +18,8 @@ use Rattle.base.specs.Lists.{any, all, only}
 use Rattle.base.proofs.Lists.{and_parts}
 use Rattle.numbers.specs.Bytes.{le64, signed64, real64}
 use Rattle.oce_model.specs.Format.{real_kind, integer_kind, min_bit, max_bit, head_min_at, head_max_at}
-use Rattle.oce_model.specs.Attributes.{Attrs, declared_at}
+use Rattle.oce_model.specs.Attributes.{declared_at}
+use Rattle.oce_model.specs.declared.Attrs.{Attrs}
 use Rattle.oce_model.specs.Model.{Model, model_of}
 use Rattle.oce_diag.specs.Diagnostics.{error}
 use Rattle.oce_diag.specs.declared.Subject.TheVariants.{Text}

@@ -6,7 +6,8 @@ use Rattle.std.specs.Float.Ieee.{lt}
 use Rattle.std.specs.Float.Ieee.Scale.{finite}
 use Rattle.numbers.specs.Bytes.{signed64, real64}
 use Rattle.oce_model.specs.Format.{real_kind, integer_kind, min_bit, max_bit}
-use Rattle.oce_model.specs.Attributes.{Attrs, declared_at}
+use Rattle.oce_model.specs.Attributes.{declared_at}
+use Rattle.oce_model.specs.declared.Attrs.{Attrs}
 use Rattle.oce_model.specs.Model.{Defaults}
 use Rattle.crossed_bounds.specs.declared.End.{End}
 use Rattle.crossed_bounds.specs.declared.End.TheVariants.{None, Value}

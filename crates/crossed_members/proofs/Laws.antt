@@ -11,7 +11,7 @@ use Rattle.base.specs.Lists.{below}
 use Rattle.base.proofs.Lists.{below_next, below-some}
 use Rattle.numbers.specs.Bytes.{word_range}
 use Rattle.oce_model.specs.Format.{dir_in, no_text}
-use Rattle.oce_model.specs.Attributes.{Attrs}
+use Rattle.oce_model.specs.declared.Attrs.{Attrs}
 use Rattle.oce_model.specs.Model.{Model, model_of, connector, boundary_input, is_connector}
 use Rattle.oce_model.specs.declared.ConnectorFront.{ConnectorFront}
 use Rattle.image_accept.specs.Layout.{Laid}

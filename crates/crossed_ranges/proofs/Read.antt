@@ -12,7 +12,8 @@ use mir.Facts.{to_z-of_z}
 use borrow.Author.Tests.{eq-eqb, ne_eqb}
 use Rattle.numbers.specs.Bytes.{bit, signed64, real64}
 use Rattle.oce_model.specs.Format.{real_kind, integer_kind, min_bit, max_bit}
-use Rattle.oce_model.specs.Attributes.{Attrs, num, declared_at, marked}
+use Rattle.oce_model.specs.Attributes.{num, declared_at, marked}
+use Rattle.oce_model.specs.declared.Attrs.{Attrs}
 use Rattle.oce_model.specs.Model.{Defaults, model_of}
 use Rattle.oce_model.specs.declared.RealAttrs.{RealAttrs}
 use Rattle.oce_model.specs.declared.IntAttrs.{IntAttrs}

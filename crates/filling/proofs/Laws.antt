@@ -14,7 +14,8 @@ use Rattle.numbers.specs.Bytes.{byte_range, short_range, le_bytes}
 use Rattle.numbers.proofs.Bytes.{le_bytes-low, le_bytes-length}
 use Rattle.oce_model.specs.Format.{attrs_length, attrs_quantity_at, attrs_min_at, longest_image, quantity_bit, unit_bit, display_unit_bit, min_bit, max_bit, nominal_bit, connector_tag, connector_size, connector_attrs, boundary_output_tag, boundary_output_size, boundary_output_attrs, fixed_length}
 use Rattle.oce_model.specs.Image.{start_of}
-use Rattle.oce_model.specs.Attributes.{Attrs, num, attrs_bytes}
+use Rattle.oce_model.specs.Attributes.{num, attrs_bytes}
+use Rattle.oce_model.specs.declared.Attrs.{Attrs}
 use Rattle.oce_model.specs.Model.{model_of}
 use Rattle.oce_model.proofs.Accepted.{Accepted, accepted, connectors-length, outputs-length}
 use Rattle.oce_model.proofs.Attributes.{bytes-length}

@@ -9,7 +9,8 @@ use lib.Dec.{eqb}
 use Rattle.numbers.specs.Bytes.{byte_range}
 use Rattle.numbers.proofs.Bits.{mark-fits}
 use Rattle.oce_model.specs.Format.{connector_attrs, connector_tag, boundary_output_attrs, boundary_output_tag}
-use Rattle.oce_model.specs.Attributes.{Attrs, no_attrs, attrs_at, declare_at, declared_at}
+use Rattle.oce_model.specs.Attributes.{no_attrs, attrs_at, declare_at, declared_at}
+use Rattle.oce_model.specs.declared.Attrs.{Attrs}
 use Rattle.oce_model.specs.Model.{connector_at, boundary_output_at, connector_count, model_of}
 use Rattle.oce_model.proofs.Fields.{nth}
 use Rattle.unify.specs.Details.{kind_of, bit_of}

@@ -2,7 +2,8 @@
 use Rattle.std.specs.Prelude.{ℕ, List, [], ◌∷◌, ◌++◌}
 use Rattle.numbers.specs.Bytes.{le_bytes}
 use Rattle.oce_model.specs.Format.{quantity_bit, unit_bit, display_unit_bit, min_bit, max_bit, nominal_bit}
-use Rattle.oce_model.specs.Attributes.{Attrs, num}
+use Rattle.oce_model.specs.Attributes.{num}
+use Rattle.oce_model.specs.declared.Attrs.{Attrs}
 
 -- kind and marks
 unfoldable pub lead_bytes : Attrs → List ℕ

@@ -8,7 +8,8 @@ use Rattle.numbers.specs.Bytes.{byte, le16, le32, le64}
 use Rattle.image_contents.proofs.Tests.{tests, or-first, other}
 use Rattle.image_contents.specs.Marks.{bad_marks, is_stray, straying, missing, bad_type}
 use Rattle.oce_model.specs.Format.{quantity_bit, unit_bit, display_unit_bit, min_bit, max_bit, nominal_bit, connector_tag, boundary_input_tag, boundary_output_tag, connector_attrs, boundary_input_attrs, boundary_output_attrs}
-use Rattle.oce_model.specs.Attributes.{Attrs, attrs_at}
+use Rattle.oce_model.specs.Attributes.{attrs_at}
+use Rattle.oce_model.specs.declared.Attrs.{Attrs}
 use Rattle.oce_model.specs.Model.{connector_at}
 use Rattle.oce_model.specs.declared.Field.{Field}
 use Rattle.oce_model.specs.Refusals.{bad_connector, bad_attrs, bad_text_numbers, bad_or_none, stray, attrs_offset, on_attrs}

@@ -10,6 +10,11 @@ ghost use Rattle.oce_model.specs.Model.{model_of, input_count_at, output_count_a
 ghost use Rattle.image_accept.specs.Layout.{Laid, Tabled};
 ghost use Rattle.image_records.specs.Records.{block_read, connector_read, connection_read, output_read, real_attrs, int_attrs};
 
+mod blocks;
+mod image;
+
+pub use blocks::{Block, Ids};
+pub use image::{Image, Refusal};
 use image_accept::{Layout, Section};
 use numbers::{read8, read16, read32};
 use oce_model::{

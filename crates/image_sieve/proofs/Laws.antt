@@ -10,7 +10,8 @@ use borrow.Author.Tests.{eqb-true, ne_eqb, not-false}
 use Rattle.base.specs.Lists.{any}
 use Rattle.numbers.specs.Bytes.{le16}
 use Rattle.oce_model.specs.Format.{leading_bytes, text_tag, block_tag, connector_tag, connection_tag, external_input_tag, boundary_input_tag, boundary_output_tag, attrs_length, connector_size, connector_attrs, boundary_input_attrs, boundary_output_attrs, block_length, port_length, most_ports, fixed_length}
-use Rattle.oce_model.specs.Attributes.{Attrs, attrs_at}
+use Rattle.oce_model.specs.Attributes.{attrs_at}
+use Rattle.oce_model.specs.declared.Attrs.{Attrs}
 use Rattle.oce_model.specs.Model.{block_at, connector_at, boundary_input_at, boundary_output_at, input_count_at, output_count_at}
 use Rattle.oce_model.specs.Refusals.{attrs_offset, bad_attrs, bad_block_length, bad_connector, bad_contents, bad_length, bad_or_none, bad_reference, bad_text, bad_text_numbers, too_many}
 use Rattle.oce_model.specs.Texts.{is_text_byte, text_of}

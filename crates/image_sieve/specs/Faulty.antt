@@ -1,6 +1,6 @@
 -- A field at fault under any of refusals 4 to 8. FORMAT 6.
 use Rattle.std.specs.Prelude.{ℕ, Bool, ◌||◌, List, leb}
-use Rattle.oce_model.specs.Attributes.{Attrs}
+use Rattle.oce_model.specs.declared.Attrs.{Attrs}
 use Rattle.oce_model.specs.Model.{Connector}
 use Rattle.oce_model.specs.Refusals.{bad_connector, bad_or_none, bad_attrs, bad_text_numbers, bad_length, too_many, bad_contents, bad_text, bad_reference}
 use Rattle.oce_model.specs.declared.Field.{Field}

@@ -10,7 +10,8 @@ use lib.Dec.{eqb, ltb}
 use lib.Signed.{mag}
 use borrow.Author.Tests.{ltb-false}
 use Rattle.oce_model.specs.Format.{connector_tag, enum_kind, head_tag, quantity_bit, real_kind, unit_bit}
-use Rattle.oce_model.specs.Attributes.{Attrs, declared_at}
+use Rattle.oce_model.specs.Attributes.{declared_at}
+use Rattle.oce_model.specs.declared.Attrs.{Attrs}
 use Rattle.oce_model.specs.Image.{fields}
 use Rattle.oce_model.specs.Model.{Model, boundary_input, boundary_output, boundary_output_count, connection, connector, connector_at, connector_count, model_of, text}
 use Rattle.oce_model.specs.Refusals.{attrs_offset, bad_attrs, bad_connector, bad_contents, bad_head, on_attrs, refusal}

@@ -11,7 +11,8 @@ use lib.Signed.{mag}
 use borrow.Author.Tests.{eqb-true, ltb-true, lt-ltb, eq-eqb, ne_eqb, not-true}
 use Rattle.base.specs.Lists.{below, only, steps}
 use Rattle.oce_model.specs.Format.{enum_kind, quantity_bit, real_kind, unit_bit}
-use Rattle.oce_model.specs.Attributes.{Attrs, declared_at}
+use Rattle.oce_model.specs.Attributes.{declared_at}
+use Rattle.oce_model.specs.declared.Attrs.{Attrs}
 use Rattle.oce_model.specs.Model.{Connector, Model, boundary_output, boundary_output_count, connection, connection_count, connector, connector_count, is_in}
 use Rattle.crossed_bounds.specs.Ranges.{crossed, range_of}
 use Rattle.crossed_bounds.specs.Values.{Datum, inside, of_kind, of_type}

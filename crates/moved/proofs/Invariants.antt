@@ -9,7 +9,8 @@ use mathlib.Core.Option.{Option, none, some}
 use lib.ListN.{length, get_or, set}
 use lib.Seq.{get_or-set_same, get_or-set_other, set_out}
 use Rattle.base.specs.Lists.{all, steps}
-use Rattle.oce_model.specs.Attributes.{Attrs, no_attrs}
+use Rattle.oce_model.specs.Attributes.{no_attrs}
+use Rattle.oce_model.specs.declared.Attrs.{Attrs}
 use Rattle.oce_model.specs.Model.{Model}
 use Rattle.unify.specs.Clusters.{driven, is_root}
 use Rattle.unify.specs.Details.{bit_of, unified_details}

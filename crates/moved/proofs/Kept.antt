@@ -12,7 +12,8 @@ use lib.Seq.{get_or-set_same, get_or-set_other, set_out}
 use lib.Dec.{eqb}
 use Rattle.base.specs.Lists.{all, steps}
 use Rattle.numbers.specs.Bytes.{bit}
-use Rattle.oce_model.specs.Attributes.{Attrs, declare_at, declared_at, no_attrs}
+use Rattle.oce_model.specs.Attributes.{declare_at, declared_at, no_attrs}
+use Rattle.oce_model.specs.declared.Attrs.{Attrs}
 use Rattle.oce_model.specs.Model.{Model, connector_count}
 use Rattle.unify.specs.Clusters.{driven, is_root}
 use Rattle.unify.specs.Details.{bit_of, kind_of, unified_details}

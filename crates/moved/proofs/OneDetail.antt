@@ -12,7 +12,8 @@ use lib.Seq.{get_or-set_same, lt-length-set}
 use lib.Dec.{eqb}
 use borrow.Author.Tests.{eq-eqb, not-false}
 use Rattle.base.specs.Lists.{all}
-use Rattle.oce_model.specs.Attributes.{Attrs, declare_at, declared_at, no_attrs}
+use Rattle.oce_model.specs.Attributes.{declare_at, declared_at, no_attrs}
+use Rattle.oce_model.specs.declared.Attrs.{Attrs}
 use Rattle.unify.specs.Details.{bit_of, kind_of}
 use Rattle.unify.specs.Slots.{Slots, agree, key, put, put_at, slot, value}
 use Rattle.unify.specs.Unify.{conflict, cons?, declarations, fill, put_members, settle}

@@ -9,7 +9,8 @@ use mathlib.Core.Option.{Option, none, some, map, none-ne-some, some-ne-none}
 use borrow.Author.Tests.{eq-eqb, ne_eqb}
 use Rattle.base.specs.Lists.{any}
 use Rattle.oce_model.specs.Format.{integer_kind, max_bit, min_bit, quantity_bit, real_kind, unit_bit}
-use Rattle.oce_model.specs.Attributes.{Attrs, declared_at}
+use Rattle.oce_model.specs.Attributes.{declared_at}
+use Rattle.oce_model.specs.declared.Attrs.{Attrs}
 use Rattle.oce_model.specs.Model.{Model, text}
 use Rattle.crossed_bounds.specs.Ranges.{range_of}
 use Rattle.crossed_bounds.specs.Values.{Datum, inside}

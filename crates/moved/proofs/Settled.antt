@@ -10,7 +10,7 @@ use lib.Dec.{eqb}
 use borrow.Author.Tests.{eqb-true, eqb-false, not-true}
 use Rattle.base.specs.Lists.{any}
 use Rattle.base.proofs.Lists.{and_parts, or_parts}
-use Rattle.oce_model.specs.Attributes.{Attrs}
+use Rattle.oce_model.specs.declared.Attrs.{Attrs}
 use Rattle.oce_model.specs.Model.{Model, boundary_output_count, connector, connector_count}
 use Rattle.oce_diag.specs.Diagnostics.{has_error, subject_of}
 use Rattle.unify.specs.Details.{detail_number, kind_of, unified_details}

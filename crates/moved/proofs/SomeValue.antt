@@ -19,7 +19,8 @@ use mir.Facts.{to_z_pos}
 use Rattle.base.specs.Lists.{all}
 use Rattle.numbers.specs.Bytes.{signed64, real64}
 use Rattle.oce_model.specs.Format.{enum_kind, integer_kind, max_bit, min_bit, real_kind}
-use Rattle.oce_model.specs.Attributes.{Attrs, declared_at}
+use Rattle.oce_model.specs.Attributes.{declared_at}
+use Rattle.oce_model.specs.declared.Attrs.{Attrs}
 use Rattle.oce_model.specs.Model.{Connector, Model}
 use Rattle.crossed_bounds.specs.Ranges.{finite_end, real_end, or_default, real_range, integer_range, range_of, crossed_ends, crossed_bounds, crossed}
 use Rattle.crossed_bounds.specs.Values.{Datum, real, integer, boolean, string, enum, of_kind, class_is, of_type, not_below, not_above, inside_bounds, inside}

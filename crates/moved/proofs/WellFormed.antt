@@ -13,7 +13,8 @@ use lib.Dec.{eqb, leb, ltb}
 use borrow.Author.Tests.{eqb-true, ne_eqb, le-ltb, leb-false, lt-leb, eq-eqb, not-false, lt-ltb}
 use Rattle.numbers.specs.Bytes.{bit}
 use Rattle.oce_model.specs.Format.{block_tag, boundary_input_attrs, boundary_input_tag, boundary_output_attrs, boundary_output_tag, connector_attrs, connector_tag, head_tag, integer_kind, quantity_bit, real_kind, text_tag, unit_bit}
-use Rattle.oce_model.specs.Attributes.{Attrs, attrs_at, declare_at, declared_at, marked, no_attrs, num}
+use Rattle.oce_model.specs.Attributes.{attrs_at, declare_at, declared_at, marked, no_attrs, num}
+use Rattle.oce_model.specs.declared.Attrs.{Attrs}
 use Rattle.oce_model.specs.Image.{fields, of_tag}
 use Rattle.oce_model.specs.Model.{block_at, boundary_input_at, boundary_output_at, connector_at, model_of}
 use Rattle.oce_model.specs.Refusals.{attrs_offset, bad_attrs, bad_connector, bad_contents, bad_head, bad_or_none, bad_reference, bad_text_numbers, on_attrs, stray}

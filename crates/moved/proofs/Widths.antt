@@ -11,7 +11,8 @@ use lib.Seq.{get_or-set_same, get_or-set_other, set_out}
 use lib.Dec.{eqb}
 use Rattle.numbers.specs.Bytes.{bit}
 use Rattle.oce_model.specs.Format.{boundary_output_tag, connector_attrs, connector_tag}
-use Rattle.oce_model.specs.Attributes.{Attrs, attrs_at, declare_at, declared_at, marked, no_attrs, num}
+use Rattle.oce_model.specs.Attributes.{attrs_at, declare_at, declared_at, marked, no_attrs, num}
+use Rattle.oce_model.specs.declared.Attrs.{Attrs}
 use Rattle.oce_model.specs.Model.{Model, boundary_output_at, boundary_output_count, connector_at, connector_count, model_of}
 use Rattle.unify.specs.Details.{bit_of, kind_of}
 use Rattle.unify.specs.Slots.{Slots, put, put_at, slot, slots_of, value}

@@ -18,7 +18,7 @@ use Rattle.numbers.specs.Bytes.{byte, byte_range, word_range, long_range, real64
 use Rattle.oce_model.specs.Format.{quantity_bit, unit_bit}
 use Rattle.oce_model.specs.Build.{◌is◌, real_with}
 use Rattle.oce_model.specs.Examples.{kelvin, celsius, ten, twenty, zero+, a_nan, model_g, model_h, model_p}
-use Rattle.oce_model.specs.Attributes.{Attrs}
+use Rattle.oce_model.specs.declared.Attrs.{Attrs}
 use Rattle.oce_model.specs.Model.{Connector, Model, model_of, no_connector, connector, connector_count, is_in}
 use Rattle.oce_model.specs.Refusals.{refusal}
 use Rattle.oce_diag.specs.Encoding.{report_bytes}

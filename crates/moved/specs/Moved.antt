@@ -20,7 +20,8 @@ use Rattle.std.proofs.Math.Option.{Option, none, some}
 use Rattle.base.specs.Lists.{each, only, below, same}
 use Rattle.numbers.specs.Bytes.{bit}
 use Rattle.oce_model.specs.Format.{quantity_bit, unit_bit, unbounded_bit, unbounded_value_bit, real_kind, min_bit, max_bit}
-use Rattle.oce_model.specs.Attributes.{Attrs, declared_at}
+use Rattle.oce_model.specs.Attributes.{declared_at}
+use Rattle.oce_model.specs.declared.Attrs.{Attrs}
 use Rattle.oce_model.specs.Model.{Connector, BoundaryOutput, Model, model_of, text, connector, connection, boundary_input, boundary_output, connector_count, connection_count, boundary_input_count, boundary_output_count, is_connector, is_in}
 use Rattle.oce_model.specs.Refusals.{refusal}
 use Rattle.oce_diag.specs.Diagnostics.{errors, warnings}

@@ -1,7 +1,7 @@
 -- Two images for demand 3, FORMAT 18: one that meets all its premises, and one that shows why attributes must be of their type's kind.
 use Rattle.std.specs.Prelude.{ℕ, List, [], ◌∷◌, ◌++◌}
 use Rattle.oce_model.specs.Format.{real_kind, string_kind, enum_kind, dir_in, dir_out, no_text, unit_bit, min_bit, max_bit}
-use Rattle.oce_model.specs.Attributes.{Attrs}
+use Rattle.oce_model.specs.declared.Attrs.{Attrs}
 use Rattle.oce_model.specs.Build.{◌is◌, attributes, real_with, integer_with, head_field, text_field, block_field, connector_field_of, out_field, in_field, connection_field, external_input_field, boundary_output_field}
 use Rattle.oce_model.specs.Examples.{text_k, units, kelvin, zero+, ten, computed_examples}
 

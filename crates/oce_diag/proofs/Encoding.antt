@@ -2,8 +2,8 @@
 use Prim.Native.Nat.{◌*◌}
 use native.Mathlib.Nat.{mul-suc}
 use native.Mathlib.Omega.{arith}
-use mathlib.Core.Path.{◌≡◌, refl, sym}
-use mathlib.Core.List.{List, [], ◌∷◌, ◌++◌, append_assoc}
+use mathlib.Core.Path.{◌≡◌, refl}
+use mathlib.Core.List.{List, [], ◌∷◌}
 use lib.ListN.{length, length-append}
 use Rattle.numbers.specs.Bytes.{le_bytes}
 use Rattle.oce_diag.specs.Encoding.{diagnostic_size, diagnostic_bytes, report_bytes}

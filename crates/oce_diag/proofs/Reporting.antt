@@ -1,14 +1,13 @@
 -- Laws of a report as code holds it: what several steps put, and a loop that puts some in each turn.
 use Prim.Native.Nat.{ℕ, suc, ◌+◌, ◌*◌, ◌≤◌, ◌<◌}
-use native.Mathlib.Nat.{mul-zero, mul-suc, mul-le-mul_left}
+use native.Mathlib.Nat.{mul-suc, mul-le-mul_left}
 use native.Mathlib.Numerals.{add-one}
 use native.Mathlib.Omega.{arith}
-use mathlib.Core.Path.{◌≡◌, refl, sym, ap, ◌∙◌}
+use mathlib.Core.Path.{◌≡◌, refl, ap, ◌∙◌}
 use mathlib.Core.Bool.{Bool, true, false}
 use mathlib.Core.List.{List, [], ◌∷◌, ◌++◌}
 use Rattle.base.specs.Lists.{each, only}
 use Rattle.base.proofs.Lists.{each_next}
-use Rattle.oce_diag.specs.Putting.{Put}
 use Rattle.oce_diag.specs.Reporting.{Room, Puts, Turns}
 use Rattle.oce_diag.specs.declared.Diagnostic.{Diagnostic}
 use Rattle.oce_diag.specs.declared.report.Report.{Report}
@@ -49,11 +48,13 @@ module _ {f : ℕ → List Diagnostic} {k : ℕ} {r₀ : Report} where
   turns-start = record { puts = puts-none }
 
   pub turns-next : {r r' : Report} {i : ℕ} → Turns f k r₀ r i → Puts k (f i) r r' → Turns f k r₀ r' (i + 1)
-  turns-next {i = i} v q = record { puts = record {
-    put = rw (each_next i f) (put_then v.puts.put q.put);
-    few = omega (arith, v.puts.few, q.few, mul-suc k i, ap (λ (x : ℕ). k * x) (add-one i));
-    same = q.same ∙ v.puts.same;
-  } }
+  turns-next {i = i} v q = record {
+    puts = record {
+      put = rw (each_next i f) (put_then v.puts.put q.put);
+      few = omega (arith, v.puts.few, q.few, mul-suc k i, ap (λ (x : ℕ). k * x) (add-one i));
+      same = q.same ∙ v.puts.same;
+    };
+  }
 
   module _ {r : Report} {i : ℕ} (v : Turns f k r₀ r i) where
     -- all m turns, of which at most n can come; t are all that these can put

@@ -11,11 +11,10 @@ ghost use Rattle.oce_diag.specs.Decoded.{severity_of, code_of, subject_from, dec
 
 mod report;
 
-pub use report::Report;
-
 use base::copy_at;
 use numbers::{BYTE_RANGE_U32, at32, byte_at};
 use oce_model::{BlockId, ConnectorId, LEADING_BYTES, NO_TEXT};
+pub use report::Report;
 
 // The Rust's `Severity`, less `Info`, which no rule gives.
 #[derive(Clone, Copy)]

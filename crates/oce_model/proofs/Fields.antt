@@ -12,7 +12,7 @@ use lib.ListN.{length, get_or}
 use lib.Dec.{leb, eqb}
 use borrow.Author.Tests.{leb-true, lt-leb, eqb-true, eq-eqb}
 use Rattle.base.specs.Lists.{keep}
-use Rattle.numbers.specs.Bytes.{byte, le16}
+use Rattle.numbers.specs.Bytes.{byte}
 use Rattle.oce_model.specs.Image.{field_at, field_end, fields, fields_from, first, of_tag, ord_of, stop, stop_from}
 use Rattle.oce_model.specs.declared.Field.{Field}
 use Rattle.base.proofs.Members.{get_or-mem}

@@ -8,7 +8,7 @@ use native.Mathlib.Nat.{not-suc-le-zero, le_of_suc-le-suc, mul-suc, mul-zero}
 use native.Mathlib.Omega.{arith}
 use mathlib.Core.Bool.{Bool, true, false, cond, ◌||◌}
 use mathlib.Core.List.{List, [], ◌∷◌}
-use mathlib.Core.Option.{none, some}
+use mathlib.Core.Option.{some}
 use lib.ListN.{length, get_or, length-map}
 use lib.Dec.{leb, eqb, ltb}
 use Rattle.base.specs.Lists.{keep}
@@ -20,7 +20,7 @@ use Rattle.oce_model.specs.Model.{boundary_input, boundary_input_at, boundary_in
 use Rattle.oce_model.specs.Refusals.{bad_length, bad_tag, tag_is_bad}
 use Rattle.base.proofs.Lists.{or_parts}
 use Rattle.base.proofs.Members.{get_or-map}
-use Rattle.oce_model.proofs.Accepted.{Accepted, accepted, connection-is, connections-length, connector-is, connectors-length, fixed-length, input-is, inputs-length, output-is, outputs-length}
+use Rattle.oce_model.proofs.Accepted.{Accepted, connection-is, connections-length, connector-is, connectors-length, fixed-length, input-is, inputs-length, output-is, outputs-length}
 use Rattle.oce_model.proofs.Fields.{None, and, nth}
 
 ascends : (f : Field) → bad_tag f ≡ false → f.prev ≤ f.tag

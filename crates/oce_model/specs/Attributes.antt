@@ -5,7 +5,6 @@ use Rattle.numbers.specs.Bytes.{byte, le16, le64, le_bytes, bit, signed64, real6
 use Rattle.oce_model.specs.Format.{quantity_bit, unit_bit, display_unit_bit, min_bit, max_bit, nominal_bit, attrs_marks_at, attrs_quantity_at, attrs_unit_at, attrs_display_unit_at, attrs_min_at, attrs_max_at, attrs_nominal_at}
 use Rattle.oce_model.specs.declared.RealAttrs.{RealAttrs}
 use Rattle.oce_model.specs.declared.IntAttrs.{IntAttrs}
-
 -- `marks` is the byte of set bits. `nums` has a number for each of the bits 0 to 5: quantity, unit, display unit (text numbers), min, max, nominal (64 bit patterns).
 pub use Rattle.oce_model.specs.declared.Attrs.{Attrs}
 

@@ -1,5 +1,5 @@
 -- The numbers of the image format, FORMAT 2 to 4. Every other file cites them by these names.
-use Rattle.std.specs.Prelude.{ℕ, ◌+◌, List, [], ◌∷◌, get_or}
+use Rattle.std.specs.Prelude.{ℕ, ◌+◌, [], ◌∷◌, get_or}
 
 -- ---- fields. FORMAT 2
 

@@ -12,7 +12,7 @@ use Rattle.base.specs.Lists.{only, any, tally}
 use Rattle.base.proofs.Lists.{length-each, length-tab, tally-le}
 use Rattle.numbers.specs.Bytes.{word_range, byte, byte_range}
 use Rattle.oce_model.specs.Format.{no_text}
-use Rattle.oce_model.specs.Attributes.{Attrs}
+use Rattle.oce_model.specs.declared.Attrs.{Attrs}
 use Rattle.oce_model.specs.Model.{Model, model_of, block, connector, connection, boundary_input, boundary_output, block_count, connector_count, connection_count, boundary_input_count, boundary_output_count, is_block, is_connector, is_in}
 use Rattle.oce_model.specs.Refusals.{refusal}
 use Rattle.oce_diag.specs.Diagnostics.{connector_id, block_id, connector_subject, subject_of, block_subject, block_subject_of, has_error}

@@ -3,7 +3,7 @@
 use Rattle.std.specs.Prelude.{ℕ, zero, suc, ◌+◌, ◌*◌, ◌-◌, cond, List, [], ◌∷◌, ◌++◌, eqb, length, replicate, take}
 use Rattle.numbers.specs.Bytes.{le_bytes}
 use Rattle.oce_model.specs.Format.{leading_bytes, head_tag, text_tag, block_tag, connection_tag, most, block_length, fixed_length, shortest_image, real_kind, integer_kind, boolean_kind, quantity_bit, unit_bit, display_unit_bit, dir_in, dir_out, no_text}
-use Rattle.oce_model.specs.Attributes.{Attrs}
+use Rattle.oce_model.specs.declared.Attrs.{Attrs}
 use Rattle.oce_model.specs.Build.{field, ◌is◌, real_with, head_field, text_field, block_field_of, block_field, connector_field_of, connector_field, in_field, connection_field, boundary_input_field, boundary_output_field}
 use Rattle.oce_model.specs.Examples.{text_k, model_c}
 use Rattle.oce_diag.specs.Encoding.{diagnostic_size}

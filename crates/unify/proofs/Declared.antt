@@ -10,7 +10,8 @@ use lib.Dec.{eqb}
 use borrow.Author.Tests.{eqb-true}
 use Rattle.numbers.specs.Bytes.{bit}
 use Rattle.numbers.proofs.Bits.{bit-other, bit-same}
-use Rattle.oce_model.specs.Attributes.{Attrs, declare_at, declared_at, marked, num}
+use Rattle.oce_model.specs.Attributes.{declare_at, declared_at, marked, num}
+use Rattle.oce_model.specs.declared.Attrs.{Attrs}
 use Rattle.unify.specs.Details.{bit_of, kind_of}
 use Rattle.unify.specs.Slots.{put, put_at, value}
 use Rattle.unify.specs.declared.Detail.{Detail}

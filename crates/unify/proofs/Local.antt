@@ -8,7 +8,8 @@ use mathlib.Core.List.{List, [], ◌∷◌, Memᴰ}
 use lib.ListN.{length, get_or, set, length-set}
 use lib.Seq.{get_or-set_same, get_or-set_other, set_out}
 use Rattle.base.specs.Lists.{all, steps}
-use Rattle.oce_model.specs.Attributes.{Attrs, no_attrs}
+use Rattle.oce_model.specs.Attributes.{no_attrs}
+use Rattle.oce_model.specs.declared.Attrs.{Attrs}
 use Rattle.oce_model.specs.Model.{Model, boundary_output_count, connector_count}
 use Rattle.unify.specs.Details.{unified_details}
 use Rattle.unify.specs.Clusters.{driven, is_root}

@@ -2,7 +2,8 @@
 use Rattle.std.specs.Prelude.{ℕ, Bool, cond, List, [], ◌∷◌, ◌++◌, map, get_or, eqb}
 use Rattle.std.proofs.Math.Option.{Option, none, some}
 use Rattle.base.specs.Lists.{same}
-use Rattle.oce_model.specs.Attributes.{Attrs, no_attrs, declared_at, declare_at}
+use Rattle.oce_model.specs.Attributes.{no_attrs, declared_at, declare_at}
+use Rattle.oce_model.specs.declared.Attrs.{Attrs}
 use Rattle.oce_model.specs.Model.{Connector, BoundaryOutput, Model}
 use Rattle.unify.specs.Details.{kind_of, bit_of, is_text}
 use Rattle.unify.specs.declared.Detail.{Detail}

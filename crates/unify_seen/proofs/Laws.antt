@@ -13,7 +13,8 @@ use lib.ListN.{length, get_or}
 use borrow.Author.Tests.{eqb-true, eqb-false, eq-eqb, ne_eqb}
 use Rattle.numbers.specs.Bytes.{bit}
 use Rattle.oce_model.specs.Format.{real_kind, integer_kind}
-use Rattle.oce_model.specs.Attributes.{Attrs, declared_at, marked, num}
+use Rattle.oce_model.specs.Attributes.{declared_at, marked, num}
+use Rattle.oce_model.specs.declared.Attrs.{Attrs}
 use Rattle.unify.specs.Details.{kind_of, bit_of}
 use Rattle.unify.specs.Slots.{Slots, slot, value}
 use Rattle.unify.specs.Unify.{declarations}

@@ -16,7 +16,8 @@ use Rattle.base.specs.Lists.{tab}
 use Rattle.base.proofs.Lists.{get_or-tab, set-tab, each_same, each_next}
 use Rattle.numbers.specs.Bytes.{bit, signed64, real64}
 use Rattle.oce_model.specs.Format.{quantity_bit, unit_bit, display_unit_bit, min_bit, max_bit, nominal_bit}
-use Rattle.oce_model.specs.Attributes.{Attrs, no_attrs, num, marked, declared_at, declare_at}
+use Rattle.oce_model.specs.Attributes.{no_attrs, num, marked, declared_at, declare_at}
+use Rattle.oce_model.specs.declared.Attrs.{Attrs}
 use Rattle.image_records.specs.Records.{real_attrs, int_attrs}
 use Rattle.unify.specs.Details.{kind_of, bit_of}
 use Rattle.unify.specs.Slots.{Slots, slot, value, put}

@@ -12,7 +12,8 @@ use Rattle.base.proofs.Lists.{each_same}
 use Rattle.base.proofs.Buffers.{patch-inside, patch-before, patch-paste}
 use Rattle.numbers.specs.Bytes.{byte, le16, le64}
 use Rattle.oce_model.specs.Format.{attrs_marks_at, attrs_quantity_at, attrs_unit_at, attrs_display_unit_at, attrs_min_at, attrs_max_at, attrs_nominal_at}
-use Rattle.oce_model.specs.Attributes.{Attrs, no_attrs, attrs_at}
+use Rattle.oce_model.specs.Attributes.{no_attrs, attrs_at}
+use Rattle.oce_model.specs.declared.Attrs.{Attrs}
 use Rattle.oce_model.specs.Model.{Model, model_of, connector, boundary_output, connector_count}
 use Rattle.image_accept.specs.Layout.{Laid}
 use Rattle.image_accept.specs.declared.Layout.{Layout}

@@ -1,6 +1,6 @@
 -- A table that holds the slots of a model (FORMAT 15).
 use Rattle.std.specs.Prelude.{ℕ, ◌≡◌, List}
-use Rattle.oce_model.specs.Attributes.{Attrs}
+use Rattle.oce_model.specs.declared.Attrs.{Attrs}
 use Rattle.oce_model.specs.Model.{Model}
 use Rattle.unify.specs.Slots.{slots_of}
 use Rattle.unify_slots.specs.Table.{attrs_of, view, slot_count, Room}

@@ -1,7 +1,8 @@
 -- The slots of rule 6 (FORMAT 15) as code holds them: one table, eight places a slot. The six numbers of its attributes stand at the places of their bits, its kind and its marks behind them.
 use Rattle.std.specs.Prelude.{ℕ, ◌+◌, ◌*◌, ◌≤◌, ◌<◌, ◌≡◌, Bool, List, length, get_or, set}
 use Rattle.base.specs.Lists.{tab}
-use Rattle.oce_model.specs.Attributes.{Attrs, marked}
+use Rattle.oce_model.specs.Attributes.{marked}
+use Rattle.oce_model.specs.declared.Attrs.{Attrs}
 use Rattle.oce_model.specs.Model.{Model, connector_count, boundary_output_count}
 use Rattle.unify.specs.Slots.{Slots, slot, value, put}
 use Rattle.unify.specs.declared.Detail.{Detail}

@@ -1,0 +1,83 @@
+-- What an accepted image knows of its records, by the numbers of the model: b are its bytes as it holds them, s as clauses see them.
+use Prim.Native.Nat.{ℕ, ◌+◌, ◌*◌, ◌<◌, ◌≤◌}
+use mathlib.Core.Path.{◌≡◌, refl, sym}
+use mathlib.Core.List.{List}
+use mathlib.Core.Option.{Option, none, some}
+use lib.ListN.{length, get_or}
+use Rattle.oce_model.specs.Format.{block_tag, most_blocks, most_connectors, most_connections, most_external_inputs, most_boundary_inputs, most_boundary_outputs}
+use Rattle.oce_model.specs.Model.{model_of, block_count, connector_count, connection_count, boundary_input_count, boundary_output_count, ids_at, block, block_at}
+use Rattle.oce_model.specs.Refusals.{Refusal, refusal}
+use Rattle.image_accept.specs.Layout.{Laid, Tabled, accepts, acceptance}
+use Rattle.image_accept.specs.declared.Acceptance.TheVariants.{Refused}
+use Rattle.image_accept.specs.declared.Layout.{Layout}
+use Rattle.numbers.specs.Bytes.{le16, le32}
+use Rattle.image_records.specs.Images.{block_value, BlockInside}
+use Rattle.image_records.proofs.Laws.{connectors-counted, connections-counted, externals-counted, inputs-counted, outputs-counted, blocks-counted, block-is, block_near, block_inside, input-ports-few, output-ports-few, blocks-few, connectors-few, connections-few, externals-few, boundary-inputs-few, boundary-outputs-few}
+
+module _ {b s : List ℕ} {l : Layout} (e : b ≡ s) (h : Laid b l) where
+  pub blocks-of : (l.blocks.count ≡ block_count (model_of s)) × (l.blocks.count ≤ most_blocks)
+  blocks-of = (rw (← e) (blocks-counted h), blocks-few h)
+
+  pub connectors-of : (l.connectors.count ≡ connector_count (model_of s)) × (l.connectors.count ≤ most_connectors)
+  connectors-of = (rw (← e) (connectors-counted h), connectors-few h)
+
+  pub connections-of : (l.connections.count ≡ connection_count (model_of s)) × (l.connections.count ≤ most_connections)
+  connections-of = (rw (← e) (connections-counted h), connections-few h)
+
+  pub externals-of : (l.externals.count ≡ length (model_of s).external_inputs) × (l.externals.count ≤ most_external_inputs)
+  externals-of = (rw (← e) (externals-counted h), externals-few h)
+
+  pub inputs-of : (l.inputs.count ≡ boundary_input_count (model_of s)) × (l.inputs.count ≤ most_boundary_inputs)
+  inputs-of = (rw (← e) (inputs-counted h), boundary-inputs-few h)
+
+  pub outputs-of : (l.outputs.count ≡ boundary_output_count (model_of s)) × (l.outputs.count ≤ most_boundary_outputs)
+  outputs-of = (rw (← e) (outputs-counted h), boundary-outputs-few h)
+
+  -- a number of a record
+  module _ {i : ℕ} where
+    pub a-block : i < block_count (model_of s) → i < l.blocks.count
+    a-block k = rw blocks-of.0 k
+
+    pub a-connector : i < connector_count (model_of s) → i < l.connectors.count
+    a-connector k = rw connectors-of.0 k
+
+    pub a-connection : i < connection_count (model_of s) → i < l.connections.count
+    a-connection k = rw connections-of.0 k
+
+    pub an-external : i < length (model_of s).external_inputs → i < l.externals.count
+    an-external k = rw externals-of.0 k
+
+    pub an-input : i < boundary_input_count (model_of s) → i < l.inputs.count
+    an-input k = rw inputs-of.0 k
+
+    pub an-output : i < boundary_output_count (model_of s) → i < l.outputs.count
+    an-output k = rw outputs-of.0 k
+
+  -- the field of a block
+  module _ {t : List ℕ} {i : ℕ} (g : Tabled block_tag b t) (k : i < block_count (model_of s)) where
+    pub block-stands : BlockInside b (get_or t i 0)
+    block-stands =
+        let n = a-block k in
+        record { near = block_near h g n refl; inputs = input-ports-few h g n refl; outputs = output-ports-few h g n refl; ends = block_inside h g n refl }
+
+    pub block-there : block_at b (get_or t i 0) ≡ block (model_of s) i
+    block-there = sym (rw (← e) (block-is h g (a-block k) refl))
+
+-- a block from its parts
+pub block-whole : (s : List ℕ) (at : ℕ) {i t n o : ℕ} → i ≡ le32 s (at + 3) → t ≡ le16 s (at + 7) → n ≡ le16 s (at + 9) → o ≡ le16 s (at + 11)
+    → record { id = record { 0 = i }; instance = t; inputs = ids_at s (at + 13) n; outputs = ids_at s (at + 13 + 4 * n) o } ≡ block_value (block_at s at)
+unfolding block_at block_value
+block-whole s at p q r w = rw (p, q, r, w) refl
+
+-- ---- what accepting says
+
+refused-as : (s : List ℕ) (o : Option Refusal) (n at : ℕ) → Refused n at ≡ accepts s o → o ≡ some (record { number = n; offset = at })
+refused-as s none n at e = absurd (cc)
+refused-as s (some r) n at e =
+    let p : r.number ≡ n = cc in
+    let q : r.offset ≡ at = cc in
+    rw (← p, ← q) refl
+
+pub is-refused : (s : List ℕ) {n at : ℕ} → Refused n at ≡ acceptance s → refusal s ≡ some (record { number = n; offset = at })
+unfolding acceptance
+is-refused s {n} {at} e = refused-as s (refusal s) n at e

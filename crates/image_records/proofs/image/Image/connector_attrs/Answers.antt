@@ -1,0 +1,15 @@
+use Rattle.std.proofs.Common.{◌∙◌}
+use Rattle.image_records.proofs.Laws.{connector-near, connector-held, connector-has}
+use Rattle.image_records.proofs.Images.{a-connector}
+use Rattle.image_records.proofs.image.Image.connector_attrs.Goals as goal
+
+pub record_at-at-requires : goal.record_at-at-requires
+record_at-at-requires c = connector-near c.self.invariant.0 (a-connector c.self.view_is c.self.invariant.0 c.requires)
+
+pub read_attrs-requires : goal.read_attrs-requires
+read_attrs-requires c = connector-held c.self.invariant.0 (a-connector c.self.view_is c.self.invariant.0 c.requires) c.record_at-at.ensures.0
+
+pub returns : goal.returns
+returns c =
+    let k = a-connector c.self.view_is c.self.invariant.0 c.requires in
+    rw (← c.self.view_is) (c.read_attrs.ensures ∙ connector-has c.self.invariant.0 k c.record_at-at.ensures.0)

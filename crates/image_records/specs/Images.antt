@@ -1,0 +1,28 @@
+-- What an image is accepted as. FORMAT 6.
+use Rattle.std.specs.Prelude.{ℕ, ◌+◌, ◌*◌, ◌≤◌, ◌≡◌, List, length, Result, Ok, Err}
+use Rattle.std.proofs.Math.Option.{none, some}
+use Rattle.oce_model.specs.Refusals.{Refusal as Refused, refusal}
+use Rattle.oce_model.specs.Format.{longest_image, most_ports, block_ports, port_length}
+use Rattle.oce_model.specs.Model.{Block as ModelBlock, input_count_at, output_count_at}
+use Rattle.image_records.specs.declared.blocks.Block.{Block}
+use Rattle.image_records.specs.declared.image.Refusal.{Refusal}
+
+-- a refusal's number and offset
+abbrev pub as_refused : Refusal → Refused
+as_refused r = record { number = r.number; offset = r.at }
+
+-- an image of the bytes s, of which no refusal applies; or the first that does
+abbrev pub Accepts : List ℕ → Result (List ℕ) Refusal → Type 0
+Accepts s (Ok image) = (image ≡ s) × (refusal s ≡ none)
+Accepts s (Err r) = refusal s ≡ some (as_refused r)
+
+-- a block by value
+unfoldable pub block_value : ModelBlock → Block
+block_value b = record { id = record { 0 = b.id }; instance = b.instance_iri; inputs = b.inputs; outputs = b.outputs }
+
+-- the field of a block stands at an offset, with its ports inside s
+pub record BlockInside (s : List ℕ) (at : ℕ) : Type 0 where
+  pub near : at ≤ longest_image
+  pub inputs : input_count_at s at ≤ most_ports
+  pub outputs : output_count_at s at ≤ most_ports
+  pub ends : at + block_ports + port_length * (input_count_at s at + output_count_at s at) ≤ length s
