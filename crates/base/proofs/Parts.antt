@@ -1,4 +1,4 @@
--- Laws of a part of a buffer that is lent on, from an index to the end, and comes back with bytes at its start.
+-- Laws of a part of a buffer that is lent on, and comes back with other bytes or with bytes at its start.
 use Prim.Native.Nat.{ℕ, ◌+◌, ◌-◌, ◌≤◌}
 use native.Mathlib.Omega.{arith}
 use mathlib.Core.Path.{◌≡◌}
@@ -8,13 +8,19 @@ use lib.Seq.{length-take-le, take_all, take-append_seam, drop-append_seam, drop-
 use borrow.Rule.Slice.PartMut.{put_mid, mid_of}
 use Rattle.base.specs.Buffers.{patch, starts_with}
 
+-- bytes fit the part from an index to the end
 pub part_room : (xs : List ℕ) (o k n : ℕ) → k ≡ length xs - o → o + n ≤ length xs → n ≤ length (mid_of o k xs)
 part_room xs o k n l h =
     let d : length (drop o xs) ≡ length xs - o = length-drop o xs in
     let f : length (mid_of o k xs) ≡ k = length-take-le k (drop o xs) (omega arith) in
     omega arith
 
--- they stand in the buffer from that index on
+-- a part that comes back whole as bs
+pub part-copied : (xs bs : List ℕ) (o k : ℕ) {zs : List ℕ} → zs ≡ bs → k ≡ length bs → put_mid o k xs zs ≡ patch xs o bs
+unfolding patch
+part-copied xs bs o k e l = simp (e, l, drop-drop, append_assoc)
+
+-- a part to the end that comes back with bs at its start
 pub part-patched : (xs bs : List ℕ) (o k : ℕ) {zs : List ℕ} → zs ≡ starts_with bs (mid_of o k xs) → k ≡ length xs - o → put_mid o k xs zs ≡ patch xs o bs
 unfolding starts_with patch
 part-patched xs bs o k e l =

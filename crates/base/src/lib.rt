@@ -9,24 +9,13 @@ pub fn copy_at(dst: &mut [u8], at: usize, src: &[u8])
     requires { at + length src.now ≤ length dst.old }
     ensures { dst.new ≡ patch dst.old at src.now }
 {
-    let mut i = 0;
-    while i < src.len() {
-        dst[at + i] = src[i];
-        i += 1;
-    }
+    dst[at..at + src.len()].copy_from_slice(src);
 }
 
 // The bytes from index at on, at most len of them.
 pub fn part_of(xs: &[u8], at: usize, len: usize) -> &[u8]
     ensures { result.now ≡ take len (drop at xs.now) }
 {
-    let n = xs.len();
-    if n <= at {
-        return &xs[n..n];
-    }
-    if n - at <= len {
-        return &xs[at..n];
-    }
-    let e = at + len;
-    &xs[at..e]
+    let rest = &xs[at.min(xs.len())..];
+    &rest[..len.min(rest.len())]
 }
