@@ -1,15 +1,18 @@
 -- Laws of numbers of w bytes, over the width.
 use Prim.Native.Nat.{ℕ, zero, suc, ◌+◌, ◌*◌, ◌/◌, ◌%◌, ◌≤◌, ◌<◌, ◌^◌}
-use native.Mathlib.Nat.{zero-add, add-zero, suc-add, pow-succ', pow-zero, div-lt_iff_lt-mul, div-div-eq-div-mul, mod-add-div, div-one, mul_assoc, add-mul-div_left, add-mul-mod_self_left}
+use native.Mathlib.Nat.{zero-add, add-zero, suc-add, pow-suc, pow-succ', pow-zero, div-lt_iff_lt-mul, div-div-eq-div-mul, mod-add-div, div-one, mul_assoc, add-mul-div_left, add-mul-mod_self_left}
 use native.Mathlib.Numerals.{add-one}
 use native.Mathlib.Omega.{arith}
 use mathlib.Core.Path.{◌≡◌, refl, sym, ap, ◌∙◌}
 use mathlib.Core.List.{List, [], ◌∷◌, ◌++◌}
-use lib.ListN.{length, take, drop, get_or-eq_default}
-use lib.Seq.{get_or-append-add, drop-cons}
+use lib.ListN.{length, take, drop, replicate, length-take, length-drop, length-replicate, get_or-replicate, get_or-eq_default}
+use lib.Seq.{get_or-append-add, get_or-take, get_or-drop, drop-cons}
+use native.Mathlib.Decide.{dec_lt}
+use Rattle.std.specs.Int.{byte_at, bytes_low_first}
 use Rattle.base.specs.Buffers.{patch}
-use Rattle.base.proofs.Buffers.{patch-patch}
+use Rattle.base.proofs.Buffers.{patch-patch, patch-inside, patch-after}
 use Rattle.numbers.specs.Bytes.{byte, le_at, le_bytes}
+pub use Rattle.numbers.specs.Same.{le_same}
 
 -- ---- le_at: which bytes count
 
@@ -24,17 +27,6 @@ le-add (suc v) w s at =
 -- a number from its halves
 pub le-halves : (w : ℕ) (s : List ℕ) (at : ℕ) {a b : ℕ} → a ≡ le_at w s at → b ≡ le_at w s (at + w) → a + 256 ^ w * b ≡ le_at (w + w) s at
 le-halves w s at d e = rw (d, e) (sym (le-add w w s at))
-
--- the same bytes are the same number
-pub le_same : (w : ℕ) (s t : List ℕ) (a b : ℕ) → ((i : ℕ) → i < w → byte s (a + i) ≡ byte t (b + i)) → le_at w s a ≡ le_at w t b
-unfolding le_at
-le_same zero s t a b h = refl
-le_same (suc w) s t a b h =
-    let e : byte s a ≡ byte t b = rw (add-zero a, add-zero b) at (h 0 (omega arith)) in
-    rw (e, le_same w s t (a + 1) (b + 1) (λ i l. ap (λ n. byte s n) (right a i) ∙ h (suc i) (omega arith) ∙ sym (ap (λ n. byte t n) (right b i))))
-  where
-    right : (c i : ℕ) → c + 1 + i ≡ c + suc i
-    right c i = omega arith
 
 pub le-append-right : (w : ℕ) (xs ys : List ℕ) (at : ℕ) → le_at w (xs ++ ys) (length xs + at) ≡ le_at w ys at
 le-append-right w xs ys at = le_same w (xs ++ ys) ys (length xs + at) at (λ i l. ap (λ n. byte (xs ++ ys) n) (right i) ∙ get_or-append-add xs ys (at + i) 0)
@@ -102,6 +94,20 @@ bytes_le (suc w) s at f h =
     right : (i : ℕ) → at + 1 + i ≡ at + suc i
     right i = omega arith
 
+byte_at-pow : (i n : ℕ) → byte_at i n ≡ n / 256 ^ i % 256
+byte_at-pow zero n = rw (pow-zero 256, div-one n)
+byte_at-pow (suc i) n = refl
+
+-- std's bytes of a number, from its byte i on
+le_bytes-from : (w i n : ℕ) → bytes_low_first i w n ≡ le_bytes w (n / 256 ^ i)
+unfolding le_bytes
+le_bytes-from zero i n = refl
+le_bytes-from (suc w) i n = rw (byte_at-pow i n, le_bytes-from w (suc i) n, div-div-eq-div-mul n (256 ^ i) 256, pow-suc 256 i)
+
+-- and all of them
+pub le_bytes-std : (w n : ℕ) → bytes_low_first 0 w n ≡ le_bytes w n
+le_bytes-std w n = rw (le_bytes-from w 0 n, pow-zero 256, div-one n)
+
 -- ---- a number that is written
 
 -- two halves that are written one behind the other are the number
@@ -116,6 +122,23 @@ patch-halves w s at n e d f =
 
 pub byte_past : (s : List ℕ) (at : ℕ) → length s ≤ at → 0 ≡ byte s at
 byte_past s at h = sym (get_or-eq_default s 0 h)
+
+-- the bytes of a part that ends early, with zeros behind them
+pub byte-padded : (s : List ℕ) (at w n i : ℕ) {there padded : List ℕ} → there ≡ take w (drop at s) → padded ≡ patch (replicate n 0) 0 there → w ≤ n → i < w → byte padded (0 + i) ≡ byte s (at + i)
+byte-padded s at w n i {there} {padded} e p f h =
+    let room : length there ≤ length (replicate {A = ℕ} n 0) = rw (e, length-replicate {A = ℕ} n 0, length-take) (omega arith) in
+    let fits : 0 + length there ≤ length (replicate {A = ℕ} n 0) = rw zero-add room in
+    let inside : byte (take w (drop at s)) i ≡ byte s (at + i) = get_or-take w (drop at s) i 0 h ∙ get_or-drop at s i 0 in
+    ap (λ t. byte t (0 + i)) p ∙ arm fits inside (dec_lt i (length there))
+  where
+    behind : (m : ℕ) → length there ≡ m → m ≤ i → length s ≤ at + i
+    behind m l k = let c : length (take w (drop at s)) ≡ m = rw e at l in omega (arith, simp (length-take, length-drop) at c)
+
+    arm : 0 + length there ≤ length (replicate {A = ℕ} n 0) → byte (take w (drop at s)) i ≡ byte s (at + i) → Dec (i < length there) → byte (patch (replicate n 0) 0 there) (0 + i) ≡ byte s (at + i)
+    arm fits inside (yes l) = patch-inside (replicate n 0) 0 there fits i l ∙ ap (λ t. byte t i) e ∙ inside
+    arm fits inside (no l) =
+        patch-after (replicate n 0) 0 there fits (0 + i) (omega arith)
+        ∙ get_or-replicate n (0 + i) 0 0 (omega arith) ∙ byte_past s (at + i) (behind (length there) refl (omega arith))
 
 -- past the end every number is 0
 pub le-past : (w : ℕ) (s : List ℕ) (at : ℕ) → length s ≤ at → 0 ≡ le_at w s at

@@ -12,6 +12,7 @@ use borrow.Author.Tests.{lt-ltb, le-ltb}
 use mir.Syntax.{w64}
 use mir.Val.{to_z, of_z, Fits, SFits}
 use mir.Facts.{to_z_pos, to_z-neg, to_z-of_z, sfits_to_z}
+use Rattle.std.specs.Float.{float_is_finite}
 use Rattle.numbers.specs.Bytes.{signed64, real64}
 
 is-nan : (x : Float) → is_nan x ≡ true → x ≡ nan
@@ -63,3 +64,10 @@ unfolding lt of_bits
 not_finite nan e = refl
 not_finite (inf s) e = refl
 not_finite (fin s m d) e = sym e
+
+-- std's test
+pub finite_std : (x : Float) → float_is_finite x ≡ finite x
+unfolding float_is_finite
+finite_std nan = refl
+finite_std (inf s) = refl
+finite_std (fin s m e) = refl

@@ -1,36 +1,161 @@
 // Numbers in bytes, read and written, and what 64 bits stand for.
 #![tactic(auto)]
 
-ghost use Rattle.std.specs.Prelude.{◌≡◌, ◌+◌, ◌≤◌, ◌<◌, length};
+ghost use Rattle.std.specs.Prelude.{◌≡◌, ℕ, ◌+◌, ◌≤◌, ◌<◌, List, [], ◌∷◌, length};
 ghost use Rattle.std.specs.Float.Ieee.Scale.{finite};
 ghost use Rattle.base.specs.Buffers.{patch};
 ghost use Rattle.numbers.specs.Bytes.{byte_range, short_range, word_range, byte, le16, le32, le64, le_bytes, bit, signed64, real64};
+ghost use Rattle.std.proofs.Common.{rules};
+ghost use Rattle.numbers.specs.Same.{byte_same, le_same};
 
-use base::copy_at;
+use std::num::f64_from_bits_with_nan;
 
-// How many numbers a byte, two bytes and four can hold, each in the type that it is used in.
-const BYTE_RANGE: usize = 256;
+use base::{copy_at, part_of};
 
-const BYTE_RANGE_U16: u16 = BYTE_RANGE as u16;
+// The most bytes that a number has.
+const LONGEST: usize = 8;
 
-pub const BYTE_RANGE_U32: u32 = BYTE_RANGE as u32;
+// How many numbers a byte can hold, and two bytes.
+pub const BYTE_RANGE_U32: u32 = 256;
 
-const SHORT_RANGE: usize = 65536;
+pub const SHORT_RANGE_U64: u64 = 65536;
 
-const SHORT_RANGE_U32: u32 = SHORT_RANGE as u32;
+// ---- a number of any width in a slice, its low byte first
 
-pub const SHORT_RANGE_U64: u64 = SHORT_RANGE as u64;
+// A number that stands in bytes.
+pub trait LittleEndian: Copy {
+    // How many bytes it has.
+    const SIZE: usize;
 
-const WORD_RANGE: u64 = 4294967296;
+    ghost SIZE: { ℕ };
 
-// A byte as a number.
-pub fn wide(x: u8) -> usize
-    ensures { (result ≡ x) × (result < byte_range) }
-{
-    x as usize
+    // The number that stands in bytes from an index on; those past the end count as 0.
+    ghost le: { List ℕ → ℕ → Self };
+
+    // The bytes that a number stands in.
+    ghost bytes: { Self → List ℕ };
+
+    // The number that stands in a slice from index at on.
+    fn read(s: &[u8], at: usize) -> Self
+        requires { at + SIZE ≤ length s.now }
+        ensures { result ≡ le s.now at };
+
+    // Writes the number into a slice from index at on.
+    fn write(self, s: &mut [u8], at: usize)
+        requires { at + SIZE ≤ length s.old }
+        ensures { s.new ≡ patch s.old at (bytes self) };
+
+    // The number at any index: bytes past the end count as 0.
+    final fn read_padded(s: &[u8], at: usize) -> Self
+        ensures { result ≡ le s.now at }
+    {
+        let there = part_of(s, at, Self::SIZE);
+        if there.len() == Self::SIZE {
+            return Self::read(there, 0);
+        }
+        let mut padded = [0; LONGEST];
+        copy_at(&mut padded, 0, there);
+        Self::read(&padded, 0)
+    }
+
+    ghost fits: { SIZE ≤ 8 };
+
+    // The same bytes are the same number.
+    ghost same: { (s t : List ℕ) (a b : ℕ) → ((i : ℕ) → i < SIZE → byte s (a + i) ≡ byte t (b + i)) → le s a ≡ le t b };
 }
 
+impl LittleEndian for u8 {
+    const SIZE: usize = 1;
+
+    ghost SIZE = { 1 };
+
+    ghost le = { byte };
+
+    ghost bytes = { λ v. v ∷ [] };
+
+    fn read(s: &[u8], at: usize) -> u8 {
+        s[at]
+    }
+
+    fn write(self, s: &mut [u8], at: usize) {
+        copy_at(s, at, &u8::to_le_bytes(self));
+    }
+
+    ghost fits = { Prim.search rules };
+
+    ghost same = { byte_same };
+}
+
+impl LittleEndian for u16 {
+    const SIZE: usize = 2;
+
+    ghost SIZE = { 2 };
+
+    ghost le = { le16 };
+
+    ghost bytes = { le_bytes 2 };
+
+    fn read(s: &[u8], at: usize) -> u16 {
+        u16::from_le_bytes([s[at], s[at + 1]])
+    }
+
+    fn write(self, s: &mut [u8], at: usize) {
+        copy_at(s, at, &u16::to_le_bytes(self));
+    }
+
+    ghost fits = { Prim.search rules };
+
+    ghost same = { le_same 2 };
+}
+
+impl LittleEndian for u32 {
+    const SIZE: usize = 4;
+
+    ghost SIZE = { 4 };
+
+    ghost le = { le32 };
+
+    ghost bytes = { le_bytes 4 };
+
+    fn read(s: &[u8], at: usize) -> u32 {
+        u32::from_le_bytes([s[at], s[at + 1], s[at + 2], s[at + 3]])
+    }
+
+    fn write(self, s: &mut [u8], at: usize) {
+        copy_at(s, at, &u32::to_le_bytes(self));
+    }
+
+    ghost fits = { Prim.search rules };
+
+    ghost same = { le_same 4 };
+}
+
+impl LittleEndian for u64 {
+    const SIZE: usize = 8;
+
+    ghost SIZE = { 8 };
+
+    ghost le = { le64 };
+
+    ghost bytes = { le_bytes 8 };
+
+    fn read(s: &[u8], at: usize) -> u64 {
+        u64::from_le_bytes([s[at], s[at + 1], s[at + 2], s[at + 3], s[at + 4], s[at + 5], s[at + 6], s[at + 7]])
+    }
+
+    fn write(self, s: &mut [u8], at: usize) {
+        copy_at(s, at, &u64::to_le_bytes(self));
+    }
+
+    ghost fits = { Prim.search rules };
+
+    ghost same = { le_same 8 };
+}
+
+// ---- the bits of a number, and what 64 bits stand for
+
 // Bit p of a number is set.
+#[tactic(auto, unfolding(crate::specs::Bytes::bit))]
 pub fn is_set(number: usize, p: usize) -> bool
     requires { p < 64 }
     ensures { result ≡ bit number p }
@@ -38,160 +163,119 @@ pub fn is_set(number: usize, p: usize) -> bool
     (number >> p) % 2 == 1
 }
 
-// ---- the number that stands in a slice from index at on
+// Every pattern of a NaN gives the one NaN.
+#[tactic(auto, unfolding(crate::specs::Bytes::real64))]
+pub fn real_of_bits(b: u64) -> f64
+    ensures { result ≡ real64 b }
+{
+    f64_from_bits_with_nan(b)
+}
 
-// Of one byte.
+// The signed number that 64 bits stand for, in two's complement.
+#[tactic(auto, unfolding(crate::specs::Bytes::signed64))]
+pub fn int_of_bits(b: u64) -> i64
+    ensures { result ≡ signed64 b }
+{
+    b.cast_signed()
+}
+
+// Neither a NaN nor an infinity.
+#[tactic(auto, using(crate::proofs::Values::finite_std))]
+pub fn is_finite(x: f64) -> bool
+    ensures { result ≡ finite x }
+{
+    x.is_finite()
+}
+
+// ---- by width
+
+// A byte as a number.
+pub fn wide(x: u8) -> usize
+    ensures { (result ≡ x) × (result < byte_range) }
+{
+    usize::from(x)
+}
+
+// One byte.
 pub fn read8(s: &[u8], at: usize) -> usize
     requires { at < length s.now }
     ensures { (result ≡ byte s.now at) × (result < byte_range) }
 {
-    wide(s[at])
+    usize::from(u8::read(s, at))
 }
 
-// Of two bytes, the low one first.
+// Two bytes.
 pub fn read16(s: &[u8], at: usize) -> usize
     requires { at + 2 ≤ length s.now }
     ensures { (result ≡ le16 s.now at) × (result < short_range) }
 {
-    wide(s[at]) + BYTE_RANGE * wide(s[at + 1])
+    usize::from(u16::read(s, at))
 }
 
-// Of four.
+// Four.
 pub fn read32(s: &[u8], at: usize) -> usize
     requires { at + 4 ≤ length s.now }
     ensures { (result ≡ le32 s.now at) × (result < word_range) }
 {
-    read16(s, at) + SHORT_RANGE * read16(s, at + 2)
+    u32::read(s, at) as usize
 }
 
-// Of eight.
+// Eight.
 pub fn read64(s: &[u8], at: usize) -> u64
     requires { at + 8 ≤ length s.now }
     ensures { result ≡ le64 s.now at }
 {
-    let low = read32(s, at);
-    let high = read32(s, at + 4);
-    low as u64 + WORD_RANGE * (high as u64)
+    u64::read(s, at)
 }
 
-// ---- the same of any index: bytes past the end count as 0
-
-// Of one byte.
+// One byte at any index.
 pub fn byte_at(s: &[u8], at: usize) -> usize
     ensures { (result ≡ byte s.now at) × (result < byte_range) }
 {
-    if at < s.len() {
-        return wide(s[at]);
-    }
-    0
+    usize::from(u8::read_padded(s, at))
 }
 
-// Of two bytes.
+// Two bytes.
 pub fn at16(s: &[u8], at: usize) -> usize
     ensures { (result ≡ le16 s.now at) × (result < short_range) }
 {
-    if s.len() <= at {
-        return 0;
-    }
-    byte_at(s, at) + BYTE_RANGE * byte_at(s, at + 1)
+    usize::from(u16::read_padded(s, at))
 }
 
-// Of four.
+// Four.
 pub fn at32(s: &[u8], at: usize) -> usize
     ensures { (result ≡ le32 s.now at) × (result < word_range) }
 {
-    if s.len() <= at {
-        return 0;
-    }
-    if 4 <= s.len() - at {
-        return read32(s, at);
-    }
-    if s.len() - at <= 2 {
-        return at16(s, at);
-    }
-    at16(s, at) + SHORT_RANGE * at16(s, at + 2)
+    u32::read_padded(s, at) as usize
 }
 
-// Of eight.
+// Eight.
 pub fn at64(s: &[u8], at: usize) -> u64
     ensures { result ≡ le64 s.now at }
 {
-    if s.len() <= at {
-        return 0;
-    }
-    if 8 <= s.len() - at {
-        return read64(s, at);
-    }
-    if s.len() - at <= 4 {
-        return at32(s, at) as u64;
-    }
-    let low = at32(s, at);
-    let high = at32(s, at + 4);
-    low as u64 + WORD_RANGE * (high as u64)
+    u64::read_padded(s, at)
 }
 
-// ---- a number written into a slice from index at on
-
-// Writes two bytes from index at on, the low one first.
+// Writes two bytes.
 pub fn write16(s: &mut [u8], at: usize, v: u16)
     requires { at + 2 ≤ length s.old }
     ensures { s.new ≡ patch s.old at (le_bytes 2 v) }
 {
-    let bytes: [u8; 2] = [
-        (v % BYTE_RANGE_U16) as u8,
-        (v / BYTE_RANGE_U16 % BYTE_RANGE_U16) as u8,
-    ];
-    copy_at(s, at, &bytes);
+    v.write(s, at);
 }
 
-// Writes four.
+// Four.
 pub fn write32(s: &mut [u8], at: usize, v: u32)
     requires { at + 4 ≤ length s.old }
     ensures { s.new ≡ patch s.old at (le_bytes 4 v) }
 {
-    write16(s, at, (v % SHORT_RANGE_U32) as u16);
-    write16(s, at + 2, (v / SHORT_RANGE_U32) as u16);
+    v.write(s, at);
 }
 
-// Writes eight.
+// Eight.
 pub fn write64(s: &mut [u8], at: usize, v: u64)
     requires { at + 8 ≤ length s.old }
     ensures { s.new ≡ patch s.old at (le_bytes 8 v) }
 {
-    write32(s, at, (v % WORD_RANGE) as u32);
-    write32(s, at + 4, (v / WORD_RANGE) as u32);
-}
-
-// ---- what 64 bits stand for
-
-// Every pattern of a NaN gives the one NaN.
-pub fn real_of_bits(b: u64) -> f64
-    ensures { result ≡ real64 b }
-{
-    if b % 0x8000_0000_0000_0000 > 0x7ff0_0000_0000_0000 {
-        return 0.0 / 0.0;
-    }
-    f64::from_bits(b)
-}
-
-// The signed number that 64 bits stand for, in two's complement.
-pub fn int_of_bits(b: u64) -> i64
-    ensures { result ≡ signed64 b }
-{
-    if b < 0x8000_0000_0000_0000 {
-        return b as i64;
-    }
-    let up = (0xffff_ffff_ffff_ffff - b) as i64;
-    -1 - up
-}
-
-// Neither a NaN nor an infinity.
-pub fn is_finite(x: f64) -> bool
-    ensures { result ≡ finite x }
-{
-    let top = f64::from_bits(0x7ff0_0000_0000_0000);
-    if x < top {
-        return -top < x;
-    }
-    false
+    v.write(s, at);
 }

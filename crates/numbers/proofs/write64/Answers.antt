@@ -1,7 +1,0 @@
--- `numbers::write64` meets its contract: the two halves are the number.
-use borrow.Author.Rules.{rules}
-use Rattle.numbers.proofs.Bytes.{patch-halves}
-use Rattle.numbers.proofs.write64.Goals as goal
-
-pub returns : goal.returns
-returns c = search (patch-halves 4, rules)
