@@ -1,6 +1,6 @@
 -- Laws of numbers of w bytes, over the width.
 use Prim.Native.Nat.{ℕ, zero, suc, ◌+◌, ◌*◌, ◌/◌, ◌%◌, ◌≤◌, ◌<◌, ◌^◌}
-use native.Mathlib.Nat.{zero-add, add-zero, suc-add, pow-suc, pow-succ', pow-zero, div-lt_iff_lt-mul, div-div-eq-div-mul, mod-add-div, div-one, mul_assoc, add-mul-div_left, add-mul-mod_self_left}
+use native.Mathlib.Nat.{zero-add, add-zero, suc-add, pow-succ', pow-zero, div-lt_iff_lt-mul, div-div-eq-div-mul, mod-add-div, div-one, mul_assoc, add-mul-div_left, add-mul-mod_self_left}
 use native.Mathlib.Numerals.{add-one}
 use native.Mathlib.Omega.{arith}
 use mathlib.Core.Path.{◌≡◌, refl, sym, ap, ◌∙◌}
@@ -8,9 +8,8 @@ use mathlib.Core.List.{List, [], ◌∷◌, ◌++◌}
 use lib.ListN.{length, take, drop, replicate, length-take, length-drop, length-replicate, get_or-replicate, get_or-eq_default}
 use lib.Seq.{get_or-append-add, get_or-take, get_or-drop, drop-cons}
 use native.Mathlib.Decide.{dec_lt}
-use Rattle.std.specs.Int.{byte_at, bytes_low_first}
 use Rattle.base.specs.Buffers.{patch}
-use Rattle.base.proofs.Buffers.{patch-patch, patch-inside, patch-after}
+use Rattle.base.proofs.Buffers.{patch-inside, patch-after}
 use Rattle.numbers.specs.Bytes.{byte, le_at, le_bytes}
 pub use Rattle.numbers.specs.Same.{le_same}
 
@@ -23,10 +22,6 @@ le-add zero w s at = rw (zero-add w, add-zero at) (omega arith)
 le-add (suc v) w s at =
     let e : at + 1 + v ≡ at + suc v = omega arith in
     rw (suc-add v w, le-add v w s (at + 1), pow-succ' 256 v, e) (omega (arith, mul_assoc 256 (256 ^ v) (le_at w s (at + suc v))))
-
--- a number from its halves
-pub le-halves : (w : ℕ) (s : List ℕ) (at : ℕ) {a b : ℕ} → a ≡ le_at w s at → b ≡ le_at w s (at + w) → a + 256 ^ w * b ≡ le_at (w + w) s at
-le-halves w s at d e = rw (d, e) (sym (le-add w w s at))
 
 pub le-append-right : (w : ℕ) (xs ys : List ℕ) (at : ℕ) → le_at w (xs ++ ys) (length xs + at) ≡ le_at w ys at
 le-append-right w xs ys at = le_same w (xs ++ ys) ys (length xs + at) at (λ i l. ap (λ n. byte (xs ++ ys) n) (right i) ∙ get_or-append-add xs ys (at + i) 0)
@@ -94,31 +89,7 @@ bytes_le (suc w) s at f h =
     right : (i : ℕ) → at + 1 + i ≡ at + suc i
     right i = omega arith
 
-byte_at-pow : (i n : ℕ) → byte_at i n ≡ n / 256 ^ i % 256
-byte_at-pow zero n = rw (pow-zero 256, div-one n)
-byte_at-pow (suc i) n = refl
-
--- std's bytes of a number, from its byte i on
-le_bytes-from : (w i n : ℕ) → bytes_low_first i w n ≡ le_bytes w (n / 256 ^ i)
-unfolding le_bytes
-le_bytes-from zero i n = refl
-le_bytes-from (suc w) i n = rw (byte_at-pow i n, le_bytes-from w (suc i) n, div-div-eq-div-mul n (256 ^ i) 256, pow-suc 256 i)
-
--- and all of them
-pub le_bytes-std : (w n : ℕ) → bytes_low_first 0 w n ≡ le_bytes w n
-le_bytes-std w n = rw (le_bytes-from w 0 n, pow-zero 256, div-one n)
-
--- ---- a number that is written
-
--- two halves that are written one behind the other are the number
-pub patch-halves : (w : ℕ) (s : List ℕ) (at n : ℕ) {s' s'' : List ℕ} → s'' ≡ patch s' (at + w) (le_bytes w (n / 256 ^ w)) → s' ≡ patch s at (le_bytes w (n % 256 ^ w)) → at + (w + w) ≤ length s → s'' ≡ patch s at (le_bytes (w + w) n)
-patch-halves w s at n e d f =
-    let fits : at + length (le_bytes w n) ≤ length s = rw (le_bytes-length w n) (omega arith) in
-    let p : patch (patch s at (le_bytes w n)) (at + length (le_bytes w n)) (le_bytes w (n / 256 ^ w)) ≡ patch s at (le_bytes w n ++ le_bytes w (n / 256 ^ w)) =
-    patch-patch s at (le_bytes w n) (le_bytes w (n / 256 ^ w)) fits in
-    e ∙ rw (d, le_bytes-low w n, le_bytes-add w w n) (rw le_bytes-length at p)
-
--- ---- le_at past the end, as the readers of any index give it
+-- ---- le_at past the end
 
 pub byte_past : (s : List ℕ) (at : ℕ) → length s ≤ at → 0 ≡ byte s at
 byte_past s at h = sym (get_or-eq_default s 0 h)
@@ -145,7 +116,3 @@ pub le-past : (w : ℕ) (s : List ℕ) (at : ℕ) → length s ≤ at → 0 ≡ 
 unfolding le_at
 le-past zero s at h = refl
 le-past (suc w) s at h = rw (← (byte_past s at h), ← (le-past w s (at + 1) (omega arith)))
-
--- a number whose upper half is past the end
-pub le-lower : (w : ℕ) (s : List ℕ) (at : ℕ) {a : ℕ} → a ≡ le_at w s at → length s ≤ at + w → a ≡ le_at (w + w) s at
-le-lower w s at e h = e ∙ sym (le-add w w s at ∙ rw (← (le-past w s (at + w) h)) (omega arith))

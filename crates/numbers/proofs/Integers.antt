@@ -1,15 +1,10 @@
 -- The order of the integers, and that 64 bits stand for a number that fits them.
-use mathlib.Core.Path.{◌≡◌, refl, ap}
+use mathlib.Core.Path.{◌≡◌, refl}
 use mathlib.Core.Bool.{true, false, false≢true, true≢false}
-use Prim.Native.Nat.{ℕ, ◌<◌}
 use native.Mathlib.Omega.{arith}
 use lib.IntN.{ℤ, pos, negsuc}
 use lib.Signed.{lt_z, le_z}
 use borrow.Author.Tests.{ltb-true, ltb-false, leb-true, le-ltb, le-leb}
-use mir.Syntax.{w64}
-use mir.Val.{SFits}
-use mir.Facts.{sfits_to_z}
-use Rattle.numbers.specs.Bytes.{signed64}
 use Rattle.numbers.proofs.Orders.{Ordered}
 
 pub int-le-refl : (x : ℤ) → le_z x x ≡ true

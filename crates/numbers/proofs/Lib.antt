@@ -3,4 +3,3 @@ pub mod Bits
 pub mod Orders
 pub mod Reals
 pub mod Integers
-pub mod Values

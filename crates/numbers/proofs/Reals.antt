@@ -10,6 +10,7 @@ use lib.Ieee.{Float, nan, inf, fin, up, down, below, level, lt, eq, le}
 use lib.Ieee.Fits.{down_pos}
 use lib.Ieee.Scale.{finite}
 use borrow.Author.Tests.{ltb-true, ltb-false, eqb-true, lt-ltb, le-ltb, eq-eqb}
+use Rattle.std.specs.Float.{float_is_finite}
 use Rattle.base.proofs.Lists.{and_parts}
 use Rattle.numbers.proofs.Orders.{Ordered}
 
@@ -139,6 +140,13 @@ real-le-trans (fin s m e) (fin t n d) (fin u k c) g h p q r =
     from_le s (m * up e * down c) u (k * up c * down e)
     (chain s (m * up e) (down e) t (n * up d) (down d) u (k * up c) (down c) (down_pos e) (down_pos d) (down_pos c)
     (to_le s (m * up e * down d) t (n * up d * down e) g) (to_le t (n * up d * down c) u (k * up c * down d) h))
+
+-- finite by std's test
+pub finite_std : (x : Float) → float_is_finite x ≡ finite x
+unfolding float_is_finite
+finite_std nan = refl
+finite_std (inf s) = refl
+finite_std (fin s m e) = refl
 
 pub reals : Ordered finite lt le
 reals = record {

@@ -8,9 +8,8 @@ ghost use Rattle.numbers.specs.Bytes.{byte_range, short_range, word_range, byte,
 ghost use Rattle.std.proofs.Common.{rules};
 ghost use Rattle.numbers.specs.Same.{byte_same, le_same};
 
-use std::num::f64_from_bits_with_nan;
-
 use base::{copy_at, part_of};
+use std::num::f64_from_bits_with_nan;
 
 // The most bytes that a number has.
 const LONGEST: usize = 8;
@@ -86,6 +85,7 @@ impl LittleEndian for u8 {
     ghost same = { byte_same };
 }
 
+#[tactic(auto, unfolding(crate::specs::Bytes::le_at, crate::specs::Bytes::le_bytes))]
 impl LittleEndian for u16 {
     const SIZE: usize = 2;
 
@@ -108,6 +108,7 @@ impl LittleEndian for u16 {
     ghost same = { le_same 2 };
 }
 
+#[tactic(auto, unfolding(crate::specs::Bytes::le_at, crate::specs::Bytes::le_bytes))]
 impl LittleEndian for u32 {
     const SIZE: usize = 4;
 
@@ -130,6 +131,7 @@ impl LittleEndian for u32 {
     ghost same = { le_same 4 };
 }
 
+#[tactic(auto, unfolding(crate::specs::Bytes::le_at, crate::specs::Bytes::le_bytes))]
 impl LittleEndian for u64 {
     const SIZE: usize = 8;
 
@@ -140,7 +142,16 @@ impl LittleEndian for u64 {
     ghost bytes = { le_bytes 8 };
 
     fn read(s: &[u8], at: usize) -> u64 {
-        u64::from_le_bytes([s[at], s[at + 1], s[at + 2], s[at + 3], s[at + 4], s[at + 5], s[at + 6], s[at + 7]])
+        u64::from_le_bytes([
+            s[at],
+            s[at + 1],
+            s[at + 2],
+            s[at + 3],
+            s[at + 4],
+            s[at + 5],
+            s[at + 6],
+            s[at + 7],
+        ])
     }
 
     fn write(self, s: &mut [u8], at: usize) {
@@ -180,7 +191,7 @@ pub fn int_of_bits(b: u64) -> i64
 }
 
 // Neither a NaN nor an infinity.
-#[tactic(auto, using(crate::proofs::Values::finite_std))]
+#[tactic(auto, using(crate::proofs::Reals::finite_std))]
 pub fn is_finite(x: f64) -> bool
     ensures { result ≡ finite x }
 {
