@@ -48,19 +48,27 @@ pub trait LittleEndian: Copy {
     final fn read_padded(s: &[u8], at: usize) -> Self
         ensures { result ≡ le s.now at }
     {
-        let there = part_of(s, at, Self::SIZE);
-        if there.len() == Self::SIZE {
-            return Self::read(there, 0);
+        if at < s.len() && Self::SIZE <= s.len() - at {
+            return Self::read(s, at);
         }
-        let mut padded = [0; LONGEST];
-        copy_at(&mut padded, 0, there);
-        Self::read(&padded, 0)
+        read_ending(s, at)
     }
 
     ghost fits: { SIZE ≤ 8 };
 
     // The same bytes are the same number.
     ghost same: { (s t : List ℕ) (a b : ℕ) → ((i : ℕ) → i < SIZE → byte s (a + i) ≡ byte t (b + i)) → le s a ≡ le t b };
+}
+
+// The same where a byte of the number is past the end: the bytes that are there, zeros behind them.
+#[cold]
+#[inline(never)]
+fn read_ending<T: LittleEndian>(s: &[u8], at: usize) -> T
+    ensures { result ≡ T.le s.now at }
+{
+    let mut bytes = [0; LONGEST];
+    copy_at(&mut bytes, 0, part_of(s, at, T::SIZE));
+    T::read(&bytes, 0)
 }
 
 impl LittleEndian for u8 {
