@@ -7,8 +7,8 @@ use mathlib.Core.Path.{◌≡◌, refl, sym, ap, ◌∙◌}
 use mathlib.Core.Bool.{Bool, true, false, cond, ◌||◌}
 use mathlib.Core.List.{List, [], ◌∷◌, ◌++◌, append-nil}
 use lib.Dec.{eqb, ltb, leb}
-use lib.ListN.{length, get_or, take, drop, set, length-set, length-append, length-drop, length-take, get_or-append}
-use lib.Seq.{get_or-set_same, get_or-set_other, take-suc, take_all, take_at, drop_at, take-suc-set, drop-set-add, drop-set-lt, take-set-le, get_or-take, length-take-le}
+use lib.ListN.{length, get_or, take, drop, set, length-set, length-drop}
+use lib.Seq.{get_or-set_same, get_or-set_other, take-suc, take_all, take-suc-set, drop-set-add, drop-set-lt}
 use borrow.Author.Tests.{eq-eqb, ne_eqb, le-leb, lt-leb, leb-false}
 use Rattle.base.specs.Lists.{any, keep}
 use Rattle.base.proofs.Lists.{any_append, keep_append}
@@ -19,7 +19,6 @@ use Rattle.image_accept.specs.Layout.{Laid}
 use Rattle.image_accept.specs.declared.Layout.{Layout}
 use Rattle.image_records.proofs.Laws.{externals-counted, externals-few}
 use Rattle.sorting.specs.Sort.{sorted, Ascending}
-use Rattle.sorting.proofs.Laws.{sorted-length, sorted-few}
 use Rattle.sorting.proofs.Sorted.{sorted-ascending, any-sorted}
 use Rattle.structural_externals.specs.Columns.{listed_ids, others_count, others, behind, Lists, OthersSorted, Listed}
 
@@ -131,58 +130,7 @@ module _ {s : List ℕ} {l : Layout} (h : Laid s l) where
           rest = rw same (ap (λ c. behind (listed_ids xs) c xs') o.count ∙ o.rest ∙ ap (sorted ltb) (v.rest ∙ ap (others (listed_ids xs)) all));
         }
 
--- ---- the others sorted
-
-module _ (xs s : List ℕ) (n : ℕ) (few : n ≤ listed_ids xs) (room : others_count xs < length xs) where
-  -- at most one is in order as it stands
-  noted-as : n ≤ 1 → OthersSorted n xs (set xs (others_count xs) n)
-  noted-as l = record {
-    same = length-set xs (others_count xs) n;
-    each = λ i h. get_or-set_other xs (others_count xs) i n 0 (λ z. absurd (omega arith));
-    count = get_or-set_same xs (others_count xs) n 0 room;
-    rest =
-        (let one : length (behind (listed_ids xs) n xs) ≤ 1 = simp length-take (omega arith) in
-        ap (take n) (drop-set-add (listed_ids xs) xs (listed_ids xs) n) ∙ take-set-le n (drop (listed_ids xs) xs) (listed_ids xs) n few ∙ sorted-few ltb (behind (listed_ids xs) n xs) one);
-  }
-
-  sorted-behind : s ≡ sorted ltb (behind (listed_ids xs) n xs) → OthersSorted n xs (set (take (listed_ids xs) xs ++ (s ++ drop n (drop (listed_ids xs) xs))) (others_count xs) n)
-  sorted-behind e = record {
-    same = length-set ys (others_count xs) n ∙ long;
-    each = λ i h.
-        (let l : i < length (take (listed_ids xs) xs) = rw front h in
-        get_or-set_other ys (others_count xs) i n 0 (λ z. absurd (omega arith)) ∙ get_or-append (take (listed_ids xs) xs) (s ++ drop n (drop (listed_ids xs) xs)) 0 i l ∙ get_or-take (listed_ids xs) xs i 0 h);
-    count = (let l : others_count xs < length ys = rw long room in get_or-set_same ys (others_count xs) n 0 l);
-    rest = ap (take n) (drop-set-add (listed_ids xs) ys (listed_ids xs) n) ∙ take-set-le n (drop (listed_ids xs) ys) (listed_ids xs) n few ∙ ap (take n) (drop_at (take (listed_ids xs) xs) (s ++ drop n (drop (listed_ids xs) xs)) (listed_ids xs) front) ∙ take_at s (drop n (drop (listed_ids xs) xs)) n part ∙ e;
-  }
-    where
-      ys : List ℕ
-      ys = take (listed_ids xs) xs ++ (s ++ drop n (drop (listed_ids xs) xs))
-
-      front : length (take (listed_ids xs) xs) ≡ listed_ids xs
-      front = length-take-le (listed_ids xs) xs (omega arith)
-
-      fits : n ≤ length (drop (listed_ids xs) xs)
-      fits = rw length-drop (omega arith)
-
-      part : length s ≡ n
-      part = ap length e ∙ sorted-length ltb (behind (listed_ids xs) n xs) ∙ length-take-le n (drop (listed_ids xs) xs) fits
-
-      long : length ys ≡ length xs
-      long = simp (length-append, length-drop) (omega (arith, front, part))
-
-  -- the same, as the code has it with half of the column's length
-  module _ (h : ℕ) (q : h ≡ listed_ids xs) where
-    pub noted : n ≤ 1 → OthersSorted n xs (set xs (h + h) n)
-    noted l = rw q (noted-as l)
-
-    pub ordered : s ≡ sorted ltb (take (h + n - h) (drop h xs)) → OthersSorted n xs (set (take h xs ++ (s ++ drop (h + n - h) (drop h xs))) (h + h) n)
-    ordered e = let z : h + n - h ≡ n = omega arith in rw (z, q) (sorted-behind (rw (z, q) at e))
-
 -- ---- an id looked up
-
--- their number is read where it was noted
-pub others-noted : (xs : List ℕ) {h r : ℕ} → h ≡ listed_ids xs → r ≡ get_or xs (h + h) 0 → r ≡ get_or xs (others_count xs) 0
-others-noted xs q e = e ∙ ap (λ i. get_or xs (i + i) 0) q
 
 -- an entry tells
 pub entry-tells : {m : Model} {xs : List ℕ} {h : ℕ} (id : ℕ) → Listed m xs → h ≡ listed_ids xs → id < h → eqb (get_or xs id 0) 1 ≡ external m id

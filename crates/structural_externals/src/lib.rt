@@ -18,13 +18,8 @@ use sorting::{is_among, sort};
 // The entries of a column that serves every image.
 pub const EXTERNALS_COLUMN: usize = 2 * MOST_EXTERNAL_INPUTS + 1;
 
-fn wide(x: u32) -> usize
-    ensures { result ≡ x }
-{
-    x as usize
-}
-
 // How many ids have an entry of their own in a column of n entries.
+#[tactic(auto, unfolding(crate::specs::Columns::half))]
 fn half(n: usize) -> usize
     ensures { result ≡ half n }
 {
@@ -52,13 +47,7 @@ fn sort_others(externals: &mut [u32], n: usize)
     ensures { OthersSorted n externals.old externals.new }
 {
     let h = half(externals.len());
-    if n <= 1 {
-        externals[h + h] = n as u32;
-        return;
-    }
-    let mut tmp = [0u32; MOST_EXTERNAL_INPUTS];
-    let end = h + n;
-    sort(&mut externals[h..end], &mut tmp);
+    sort(&mut externals[h..h + n]);
     externals[h + h] = n as u32;
 }
 
@@ -67,12 +56,9 @@ pub fn list_externals(image: &[u8], layout: Layout, externals: &mut [u32])
     requires { Laid image.now layout × Lists (model_of image.now) 0 0 externals.old }
     ensures { Listed (model_of image.now) externals.new }
 {
-    let section = layout.externals;
-    let mut k = 0;
     let mut n = 0;
-    while k < section.count {
+    for k in 0..layout.externals.count {
         n = list_one(image, layout, k, n, externals);
-        k += 1;
     }
     sort_others(externals, n);
 }
@@ -83,7 +69,7 @@ fn others(externals: &[u32]) -> usize
     ensures { result ≡ get_or externals.now (others_count externals.now) 0 }
 {
     let h = half(externals.len());
-    wide(externals[h + h])
+    externals[h + h] as usize
 }
 
 // An id is that of an external input.
@@ -95,6 +81,5 @@ pub fn is_external(image: &[u8], layout: Layout, externals: &[u32], id: usize) -
     if id < h {
         return externals[id] == 1;
     }
-    let end = h + others(externals);
-    is_among(&externals[h..end], id)
+    is_among(&externals[h..h + others(externals)], id)
 }
