@@ -1,67 +1,151 @@
--- Laws of the two loops over the fields: framing, and the search for the first field that passes a test.
-use Prim.Native.Nat.{ℕ, ◌<◌, ◌≤◌}
-use native.Mathlib.Omega.{arith}
+-- Laws of what is left of the fields in a loop over all of them, of where they stop, and of what framing and a search for the first that passes a test have found.
+use Prim.Native.Nat.{ℕ, zero, suc, ◌<◌, ◌≤◌}
 use mathlib.Core.Path.{◌≡◌, refl, sym, ap, ◌∙◌}
 use mathlib.Core.Bool.{Bool, true, false, cond}
-use mathlib.Core.List.{List, ◌∷◌}
-use mathlib.Core.Option.{some}
+use mathlib.Core.List.{List, [], ◌∷◌, Memᴰ}
+use mathlib.Core.Option.{none, some}
+use lib.Dec.{leb}
 use lib.ListN.{length}
 use borrow.Author.Tests.{lt-ltb, le-ltb}
-use Rattle.numbers.specs.Bytes.{short_range}
-use Rattle.oce_model.specs.Image.{fields, first}
+use Rattle.std.specs.Prelude.{Option, None, Some, Ok, Err}
+use Rattle.std.specs.Option.{option_or}
+use Rattle.std.specs.Bool.{then_some}
+use Rattle.numbers.specs.Bytes.{byte}
+use Rattle.oce_model.specs.Image.{field_at, field_end, fields, fields_from, first, ord_of, stop, stop_from}
 use Rattle.oce_model.specs.Refusals.{bad_tag}
 use Rattle.oce_model.specs.declared.Field.{Field}
 use Rattle.oce_model.proofs.Fields.{first-here, first-later}
-use Rattle.image_framing.specs.declared.Found.{Found}
-use Rattle.image_framing.specs.declared.Found.TheVariants.{At, Nothing}
-use Rattle.image_framing.specs.declared.Framed.TheVariants.{Cut, Whole}
-use Rattle.image_framing.specs.Walk.{Ended, Walking, after, end_of, first_of, found_of, framed, or_else, start}
-use Rattle.image_framing.proofs.Walks.{walk-cut, walk_end, walk-fits, walk_start, walk_step, walk-stop}
+use Rattle.oce_model.proofs.Places.{field-end}
+use Rattle.image_framing.specs.Walk.{Ended, Walking, after, end_of, found_of, framed, start, stop_after}
+use Rattle.image_framing.proofs.Walks.{walk-fits, walk_start, walk_step}
+
+-- ---- what is left
+
+-- a loop over the fields of an image has some of them before it
+pub record Left (s : List ℕ) (rest : List Field) : Type 0 where
+  pub among : (f : Field) → Memᴰ f rest → Memᴰ f (fields s)
+
+pub left-all : (s : List ℕ) → Left s (fields s)
+left-all s = record { among = λ f m. m }
+
+module _ {s : List ℕ} {f : Field} {rest later : List Field} (v : Left s rest) (e : rest ≡ f ∷ later) where
+  pub left-next : Left s later
+  left-next = record { among = λ g m. v.among g (rw e (Memᴰ.tail m)) }
+
+  -- each ends within the image
+  pub left-fits : end_of f ≤ length s
+  left-fits = field-end s f (v.among f (rw e (Memᴰ.head refl)))
+
+-- ---- where they stop
+
+stop-from : (k : ℕ) (s : List ℕ) (at prev n : ℕ) → stop_after at (fields_from k s at prev n) ≡ stop_from k s at
+unfolding fields_from stop_from field_at field_end
+stop-from zero s at prev n = refl
+stop-from (suc k) s at prev n = arm (leb (field_end s at) (length s)) (stop-from k s (field_end s at) (byte s at) (suc (ord_of prev n (byte s at))))
+  where
+    o : ℕ
+    o = ord_of prev n (byte s at)
+
+    rest : List Field
+    rest = fields_from k s (field_end s at) (byte s at) (suc o)
+
+    arm : (b : Bool) → stop_after (field_end s at) rest ≡ stop_from k s (field_end s at) → stop_after at (cond b (field_at s at prev o ∷ rest) []) ≡ cond b (stop_from k s (field_end s at)) at
+    arm true ih = ih
+    arm false ih = refl
+
+-- the last of the fields passed ends at end
+pub record Stopping (s : List ℕ) (rest : List Field) (end : ℕ) : Type 0 where
+  pub stops : stop_after end rest ≡ stop s
+
+pub stopping-start : {s : List ℕ} {rest : List Field} → rest ≡ fields s → Stopping s rest 0
+unfolding fields stop
+stopping-start {s} e = record { stops = rw e (stop-from (length s) s 0 0 0) }
+
+module _ {s : List ℕ} {rest : List Field} {end : ℕ} (v : Stopping s rest end) where
+  pub stopping-next : {f : Field} {later : List Field} {end' : ℕ} → rest ≡ f ∷ later → end' ≡ end_of f → Stopping s later end'
+  stopping-next {f} {later} e q = record { stops = ap (λ n. stop_after n later) q ∙ ap (stop_after end) (sym e) ∙ v.stops }
+
+  -- where none is left, that is where the fields stop
+  pub stopping-end : rest ≡ [] → stop s ≡ end
+  stopping-end e = sym v.stops ∙ ap (stop_after end) e
+
+-- ---- a search
+
+-- none of the fields passed passes the test p
+pub record Searching (p : Field → Bool) (s : List ℕ) (rest : List Field) : Type 0 where
+  pub left : Left s rest
+  pub same : first p rest ≡ first p (fields s)
+
+pub searching-start : (p : Field → Bool) {s : List ℕ} {rest : List Field} → rest ≡ fields s → Searching p s rest
+searching-start p {s} e = record { left = rw e (left-all s); same = ap (first p) e }
+
+module _ {p : Field → Bool} {s : List ℕ} {rest : List Field} (v : Searching p s rest) where
+  module _ {f : Field} {later : List Field} (e : rest ≡ f ∷ later) where
+    pub searching-fits : end_of f ≤ length s
+    searching-fits = left-fits v.left e
+
+    module _ {b : Bool} (t : b ≡ p f) where
+      pub searching-next : b ≡ false → Searching p s later
+      searching-next u = record { left = left-next v.left e; same = sym (first-later p f later (sym t ∙ u)) ∙ ap (first p) (sym e) ∙ v.same }
+
+      pub searching-found : b ≡ true → Some f.at ≡ found_of (first p (fields s))
+      searching-found u = sym (ap found_of (sym v.same ∙ ap (first p) e ∙ first-here p f later (sym t ∙ u)))
+
+  pub searching-none : rest ≡ [] → first p (fields s) ≡ none
+  unfolding first
+  searching-none e = sym v.same ∙ ap (first p) e
+
+  pub searching-end : rest ≡ [] → None ≡ found_of (first p (fields s))
+  searching-end e = sym (ap found_of (searching-none e))
 
 -- ---- framing
 
--- bad is the first bad tag of those passed
-pub record Framing (s : List ℕ) (bad : Found) (f : Field) : Type 0 where
-  pub rest : List Field
-  pub walk : Walking s f rest
-  pub small : f.len < short_range
-  pub found : found_of (first bad_tag (fields s)) ≡ or_else bad (found_of (first bad_tag rest))
+-- bad is the first bad tag of the fields passed
+pub record Framing (s : List ℕ) (rest : List Field) (bad : Option ℕ) (end : ℕ) : Type 0 where
+  pub left : Left s rest
+  pub stopping : Stopping s rest end
+  pub found : option_or bad (found_of (first bad_tag rest)) ≡ found_of (first bad_tag (fields s))
 
-one_more : (bad : Found) (f : Field) (l : List Field) → or_else bad (found_of (first bad_tag (f ∷ l))) ≡ or_else (first_of bad f) (found_of (first bad_tag l))
-unfolding first first_of
-one_more (At at) f l = refl
-one_more (Nothing) f l = arm (bad_tag f)
+pub framing-start : {s : List ℕ} {rest : List Field} → rest ≡ fields s → Framing s rest None 0
+framing-start {s} e = rw e (record { left = left-all s; stopping = stopping-start refl; found = refl })
+
+one_more : (bad : Option ℕ) (f : Field) (l : List Field) → option_or (option_or bad (then_some (bad_tag f) f.at)) (found_of (first bad_tag l)) ≡ option_or bad (found_of (first bad_tag (f ∷ l)))
+unfolding first
+one_more (Some at) f l = refl
+one_more None f l = arm (bad_tag f)
   where
-    arm : (b : Bool) → found_of (cond b (some f.at) (first bad_tag l)) ≡ or_else (cond b (At f.at) Nothing) (found_of (first bad_tag l))
+    arm : (b : Bool) → option_or (then_some b f.at) (found_of (first bad_tag l)) ≡ found_of (cond b (some f.at) (first bad_tag l))
     arm true = refl
     arm false = refl
 
-none_more : (bad : Found) → or_else bad Nothing ≡ bad
-none_more (At at) = refl
-none_more (Nothing) = refl
+none_more : (bad : Option ℕ) → option_or bad None ≡ bad
+none_more (Some at) = refl
+none_more None = refl
 
-module _ {s : List ℕ} {f : Field} where
-  pub framing-start : f ≡ start s → f.len < short_range → Framing s Nothing f
-  framing-start e l = record { rest = fields s; walk = walk_start e; small = l; found = refl }
+module _ {s : List ℕ} {rest : List Field} {bad : Option ℕ} {end : ℕ} (v : Framing s rest bad end) where
+  module _ {f : Field} {later : List Field} (e : rest ≡ f ∷ later) where
+    pub framing-fits : end_of f ≤ length s
+    framing-fits = left-fits v.left e
 
-  module _ {bad : Found} (v : Framing s bad f) where
-    pub framing-turn : {bad' : Found} {g : Field} → f.at < length s → end_of f ≤ length s → bad' ≡ first_of bad f → g ≡ after s f → g.len < short_range → Framing s bad' g
-    framing-turn h fits b e l =
-        let k = walk_step v.walk h fits e in
-        record { rest = k.later; walk = k.walk; small = l; found = v.found ∙ ap (λ r. or_else bad (found_of (first bad_tag r))) k.is ∙ one_more bad f k.later ∙ rw b }
+    pub framing-next : {b : Bool} {o bad' : Option ℕ} {end' : ℕ} → b ≡ bad_tag f → o ≡ then_some b f.at → bad' ≡ option_or bad o → end' ≡ end_of f → Framing s later bad' end'
+    framing-next t p q r = record {
+      left = left-next v.left e;
+      stopping = stopping-next v.stopping e r;
+      found = rw (q, p, t) (one_more bad f later) ∙ ap (λ l. option_or bad (found_of (first bad_tag l))) (sym e) ∙ v.found;
+    }
 
-    pub framing-cut : f.at < length s → length s < end_of f → Cut f.at ≡ framed s
+  module _ (e : rest ≡ []) where
+    pub framing-cut : end < length s → Err end ≡ framed s
     unfolding framed
-    framing-cut h past = sym (rw (walk-cut v.walk past, lt-ltb f.at (length s) h))
+    framing-cut h = sym (rw (stopping-end v.stopping e, lt-ltb end (length s) h) refl)
 
-    pub framing-whole : length s ≤ f.at → Whole bad ≡ framed s
+    pub framing-whole : length s ≤ end → Ok bad ≡ framed s
     unfolding framed first
     framing-whole h =
-        let e : found_of (first bad_tag (fields s)) ≡ bad = v.found ∙ ap (λ r. or_else bad (found_of (first bad_tag r))) (walk_end v.walk h) ∙ none_more bad in
-        let l : length s ≤ length s = omega arith in
-        sym (rw (walk-stop v.walk h, le-ltb (length s) (length s) l, e))
+        let found : bad ≡ found_of (first bad_tag (fields s)) = sym (none_more bad) ∙ ap (λ l. option_or bad (found_of (first bad_tag l))) (sym e) ∙ v.found in
+        sym (rw (stopping-end v.stopping e, le-ltb end (length s) h, ← found) refl)
 
--- ---- a search
+-- ---- the same search by `next_field`
 
 -- none of those passed passes the test p
 pub record Seeking (p : Field → Bool) (s : List ℕ) (f : Field) : Type 0 where
@@ -74,19 +158,7 @@ module _ {p : Field → Bool} {s : List ℕ} {f : Field} where
   seeking-start e = record { rest = fields s; walk = walk_start e; same = refl }
 
   module _ (v : Seeking p s f) where
-    pub seeking-fits : Ended s → f.at < length s → end_of f ≤ length s
-    seeking-fits w h = walk-fits v.walk w.ends h
-
     pub seeking-turn : {b : Bool} {g : Field} → Ended s → f.at < length s → b ≡ p f → b ≡ false → g ≡ after s f → Seeking p s g
     seeking-turn w h t u e =
-        let k = walk_step v.walk h (seeking-fits w h) e in
+        let k = walk_step v.walk h (walk-fits v.walk w.ends h) e in
         record { rest = k.later; walk = k.walk; same = v.same ∙ ap (first p) k.is ∙ first-later p f k.later (sym t ∙ u) }
-
-    pub seeking-found : {b : Bool} → Ended s → f.at < length s → b ≡ p f → b ≡ true → At f.at ≡ found_of (first p (fields s))
-    seeking-found w h t u =
-        let k = walk_step v.walk h (seeking-fits w h) refl in
-        sym (ap found_of (v.same ∙ ap (first p) k.is ∙ first-here p f k.later (sym t ∙ u)))
-
-    pub seeking-none : length s ≤ f.at → Nothing ≡ found_of (first p (fields s))
-    unfolding first
-    seeking-none h = sym (ap found_of (v.same ∙ ap (first p) (walk_end v.walk h)))

@@ -1,42 +1,57 @@
 -- Laws of what stands at an offset, with the code's own tests.
 use Prim.Native.Nat.{ℕ, ◌+◌, ◌-◌, ◌<◌, ◌≤◌}
 use native.Mathlib.Omega.{arith}
-use mathlib.Core.Path.{◌≡◌, sym}
-use mathlib.Core.Bool.{true, false}
+use mathlib.Core.Path.{◌≡◌, refl, ap}
+use mathlib.Core.Bool.{Bool, true, false, cond}
 use mathlib.Core.List.{List}
+use lib.Dec.{leb}
 use lib.ListN.{length}
-use borrow.Author.Tests.{le-leb, lt-leb}
-use Rattle.numbers.specs.Bytes.{byte, le16}
+use borrow.Author.Tests.{le-leb, lt-leb, leb-true}
+use Rattle.std.specs.Prelude.{None, Some}
 use Rattle.numbers.proofs.Bytes.{byte_past, le-past}
 use Rattle.oce_model.specs.Format.{leading_bytes, field_length_at}
 use Rattle.oce_model.specs.Image.{field_end, field_at, ord_of}
 use Rattle.oce_model.specs.declared.Field.{Field}
 use Rattle.image_framing.specs.declared.Leading.{Leading}
-use Rattle.image_framing.specs.Walk.{leading_at, placed}
+use Rattle.image_framing.specs.Walk.{leading_at, whole_at, placed}
 
 module _ (s : List ℕ) (at : ℕ) where
   -- nothing stands past the end
-  pub leads-past : length s ≤ at → ◌≡◌ {A = Leading} (record { tag = 0; len = 0; whole = false }) (leading_at s at)
-  unfolding field_end
+  pub leads-past : length s ≤ at → ◌≡◌ {A = Leading} (record { tag = 0; len = 0 }) (leading_at s at)
   leads-past h =
-      let past : length s < at + leading_bytes + 0 = omega arith in
       let behind : length s ≤ at + field_length_at = omega arith in
-      rw (← (byte_past s at h), ← (le-past 2 s (at + field_length_at) behind)) (simp (lt-leb _ _ past))
+      rw (← (byte_past s at h), ← (le-past 2 s (at + field_length_at) behind)) refl
 
-  module _ {t n : ℕ} (e : t ≡ byte s at) (f : n ≡ le16 s (at + field_length_at)) where
+  pub whole-past : length s ≤ at → None ≡ whole_at s at
+  unfolding field_end
+  whole-past h = let past : length s < field_end s at = omega arith in rw (lt-leb _ _ past) refl
+
+  module _ {l : Leading} (e : l ≡ leading_at s at) where
     -- a field that runs past the end
-    pub leads-cut : at < length s → length s - at < leading_bytes → ◌≡◌ {A = Leading} (record { tag = t; len = n; whole = false }) (leading_at s at)
+    pub whole-cut : length s - at < leading_bytes + l.len → None ≡ whole_at s at
     unfolding field_end
-    leads-cut h c = rw (e, f) (simp (lt-leb (field_end s at) (length s) (omega arith)))
-
-    pub leads-short : length s - at < leading_bytes + n → at < length s → ◌≡◌ {A = Leading} (record { tag = t; len = n; whole = false }) (leading_at s at)
-    unfolding field_end
-    leads-short c h = let past : length s < at + leading_bytes + n = omega arith in rw (e, f) (simp (lt-leb (field_end s at) (length s) (rw f at past)))
+    whole-cut c = let past : length s < field_end s at = omega (arith, ap (λ (l : Leading). l.len) e) in rw (lt-leb _ _ past) refl
 
     -- a whole one
-    pub leads-whole : leading_bytes + n ≤ length s - at → at < length s → ◌≡◌ {A = Leading} (record { tag = t; len = n; whole = true }) (leading_at s at)
+    pub whole-fits : at < length s → leading_bytes + l.len ≤ length s - at → Some l ≡ whole_at s at
     unfolding field_end
-    leads-whole c h = let fits : at + leading_bytes + n ≤ length s = omega arith in rw (e, f) (simp (le-leb (field_end s at) (length s) (rw f at fits)))
+    whole-fits h c = let fits : field_end s at ≤ length s = omega (arith, ap (λ (l : Leading). l.len) e) in rw (le-leb _ _ fits) (ap Some e)
+
+-- what is whole
+pub whole-is : (s : List ℕ) (at : ℕ) {l : Leading} → Some l ≡ whole_at s at → (field_end s at ≤ length s) × (l ≡ leading_at s at)
+whole-is s at {l} h = arm (leb (field_end s at) (length s)) refl h
+  where
+    arm : (b : Bool) → leb (field_end s at) (length s) ≡ b → Some l ≡ cond b (Some (leading_at s at)) None → (field_end s at ≤ length s) × (l ≡ leading_at s at)
+    arm true e q = (leb-true _ _ e, cc)
+    arm false e q = let z : ◌≡◌ {A = ℕ} 0 1 = cc in absurd (omega arith)
+
+-- what isn't
+pub not-whole : (s : List ℕ) (at : ℕ) → None ≡ whole_at s at → leb (field_end s at) (length s) ≡ false
+not-whole s at h = arm (leb (field_end s at) (length s)) refl h
+  where
+    arm : (b : Bool) → leb (field_end s at) (length s) ≡ b → None ≡ cond b (Some (leading_at s at)) None → leb (field_end s at) (length s) ≡ false
+    arm true e q = let z : ◌≡◌ {A = ℕ} 0 1 = cc in absurd (omega arith)
+    arm false e q = e
 
 -- the field there, behind others
 pub leads-field : (s : List ℕ) (at prev n : ℕ) {l : Leading} {ord : ℕ} → l ≡ leading_at s at → ord ≡ ord_of prev n l.tag

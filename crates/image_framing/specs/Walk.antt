@@ -1,22 +1,23 @@
 -- The fields of an image, one after the other, as a loop goes through them. FORMAT 2.
-use Rattle.std.specs.Prelude.{ℕ, zero, suc, ◌+◌, ◌≤◌, ◌≡◌, cond, List, [], ◌∷◌, leb, ltb, length}
-use Rattle.std.proofs.Math.Option.{Option, none, some}
+use Rattle.std.specs.Prelude.{ℕ, zero, suc, ◌+◌, ◌≤◌, ◌≡◌, cond, List, [], ◌∷◌, leb, ltb, length, Option, None, Some, Result, Ok, Err}
+use Rattle.std.proofs.Math.Option as maybe
+use Rattle.std.proofs.Math.Option.{none, some}
 use Rattle.numbers.specs.Bytes.{byte, le16}
 use Rattle.oce_model.specs.Format.{leading_bytes, field_length_at, longest_image}
-use Rattle.oce_model.specs.Image.{field_end, field_at, ord_of, fields, stop, first}
+use Rattle.oce_model.specs.Image.{field_end, field_at, ord_of, fields, fields_from, stop, first}
 use Rattle.oce_model.specs.Refusals.{bad_tag}
 use Rattle.oce_model.specs.declared.Field.{Field}
 use Rattle.image_framing.specs.declared.Leading.{Leading}
-use Rattle.image_framing.specs.declared.Found.{Found}
-use Rattle.image_framing.specs.declared.Found.TheVariants.{At, Nothing}
-use Rattle.image_framing.specs.declared.Framed.{Framed}
-use Rattle.image_framing.specs.declared.Framed.TheVariants.{Cut, Whole}
 
 -- ---- one field and the next
 
--- what stands at an offset: a field's tag and length, and whether all of it lies in the image
+-- what stands at an offset: a field's tag and length
 abbrev pub leading_at : List ℕ → ℕ → Leading
-leading_at s at = record { tag = byte s at; len = le16 s (at + field_length_at); whole = leb (field_end s at) (length s) }
+leading_at s at = record { tag = byte s at; len = le16 s (at + field_length_at) }
+
+-- the same, where all of the field lies in the image
+abbrev pub whole_at : List ℕ → ℕ → Option Leading
+whole_at s at = cond (leb (field_end s at) (length s)) (Some (leading_at s at)) None
 
 -- the field at an offset, behind n fields with the tag prev
 unfoldable pub placed : List ℕ → ℕ → ℕ → ℕ → Field
@@ -46,6 +47,10 @@ unfoldable pub stops : ℕ → List ℕ → Field → ℕ
 stops zero s f = f.at
 stops (suc k) s f = let rest = stops k s (after s f) in cond (leb (end_of f) (length s)) rest f.at
 
+-- the fields from an offset on, behind n fields with the tag prev
+unfoldable pub rest_at : List ℕ → ℕ → ℕ → ℕ → List Field
+rest_at s at prev n = fields_from (length s) s at prev n
+
 -- a loop that has come to f has rest before it
 pub record Walking (s : List ℕ) (f : Field) (rest : List Field) : Type 0 where
   pub fuel : ℕ
@@ -62,20 +67,16 @@ pub record Ended (s : List ℕ) : Type 0 where
 
 -- ---- what is found
 
--- an offset, if there is one
-abbrev pub found_of : Option ℕ → Found
-found_of none = Nothing
-found_of (some at) = At at
+-- where the last of some fields ends, or at where there is none
+abbrev pub stop_after : ℕ → List Field → ℕ
+stop_after at [] = at
+stop_after at (f ∷ fs) = stop_after (end_of f) fs
 
--- the first of two findings
-abbrev pub or_else : Found → Found → Found
-or_else Nothing found = found
-or_else (At at) found = At at
-
--- what was found before f, or f where its tag is bad
-unfoldable pub first_of : Found → Field → Found
-first_of bad f = or_else bad (cond (bad_tag f) (At f.at) Nothing)
+-- an offset that a definition finds, as code gives it
+abbrev pub found_of : maybe.Option ℕ → Option ℕ
+found_of none = None
+found_of (some at) = Some at
 
 -- what framing finds
-unfoldable pub framed : List ℕ → Framed
-framed s = cond (ltb (stop s) (length s)) (Cut (stop s)) (Whole (found_of (first bad_tag (fields s))))
+unfoldable pub framed : List ℕ → Result (Option ℕ) ℕ
+framed s = cond (ltb (stop s) (length s)) (Err (stop s)) (Ok (found_of (first bad_tag (fields s))))

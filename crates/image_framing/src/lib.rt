@@ -2,30 +2,19 @@
 // fault under a refusal.
 #![tactic(auto)]
 
-ghost use Rattle.std.specs.Prelude.{◌≡◌, ◌<◌, ◌≤◌, ltb, length};
-ghost use Rattle.numbers.specs.Bytes.{byte_range, short_range};
+ghost use Rattle.std.specs.Prelude.{◌≡◌, ◌<◌, ◌≤◌, ltb, length, IfSome};
+ghost use Rattle.numbers.specs.Bytes.{byte_range, short_range, long_range};
 ghost use Rattle.oce_model.specs.Format.{longest_image};
 ghost use Rattle.oce_model.specs.Image.{ord_of, fields, first};
 ghost use Rattle.oce_model.specs.Refusals.{fault};
-ghost use Rattle.image_framing.specs.Walk.{leading_at, placed, start, after, end_of, Ended, found_of, first_of, framed};
+ghost use Rattle.image_framing.specs.Walk.{leading_at, whole_at, placed, start, after, end_of, found_of, framed};
 
+mod fields;
+
+pub use fields::Fields;
 use image_faults::{bad_tag, is_at_fault};
 use numbers::{at16, read16, wide};
 use oce_model::{FIELD_LENGTH_AT, Field, LEADING_BYTES};
-
-// The offset of a field at fault.
-#[derive(Clone, Copy)]
-pub enum Found {
-    At(usize),
-    Nothing,
-}
-
-// What framing finds: the field that runs past the image's end, or the first field with a bad tag.
-#[derive(Clone, Copy)]
-pub enum Framed {
-    Cut(usize),
-    Whole(Found),
-}
 
 // ---- one field and the next
 
@@ -34,53 +23,42 @@ pub enum Framed {
 fn ord_of(prev: usize, n: usize, t: usize) -> usize
     ensures { result ≡ ord_of prev n t }
 {
-    if prev == t {
-        return n;
-    }
-    0
+    if prev == t { n } else { 0 }
 }
 
-// What stands at an offset: a tag, the length of the contents, and whether all of it lies in the image. Bytes
-// past the end count as 0.
+// The tag and the length of the contents that stand at an offset.
 #[derive(Clone, Copy)]
 pub struct Leading {
     pub tag: usize,
     pub len: usize,
-    pub whole: bool,
 }
 
-// Reads what stands at an offset.
+// Reads what stands at an offset. Bytes past the end count as 0.
 pub fn leading_at(s: &[u8], at: usize) -> Leading
     ensures { (result ≡ leading_at s.now at) × (result.tag < byte_range) × (result.len < short_range) }
 {
     if s.len() <= at {
-        return Leading {
-            tag: 0,
-            len: 0,
-            whole: false,
-        };
+        return Leading { tag: 0, len: 0 };
     }
-    let left = s.len() - at;
     let tag = wide(s[at]);
-    if left < LEADING_BYTES {
-        return Leading {
-            tag,
-            len: at16(s, at + FIELD_LENGTH_AT),
-            whole: false,
-        };
-    }
-    let len = read16(s, at + FIELD_LENGTH_AT);
-    if left < LEADING_BYTES + len {
-        return Leading {
-            tag,
-            len,
-            whole: false,
-        };
-    }
-    Leading {
-        tag,
-        len,
-        whole: true,
+    let len = if LEADING_BYTES <= s.len() - at {
+        read16(s, at + FIELD_LENGTH_AT)
+    } else {
+        at16(s, at + FIELD_LENGTH_AT)
+    };
+    Leading { tag, len }
+}
+
+// The same, where all of the field lies in the image.
+pub fn whole_at(s: &[u8], at: usize) -> Option<Leading>
+    ensures whole { result ≡ whole_at s.now at }
+    ensures ranges { IfSome result (λ l. (l.tag < byte_range) × (l.len < short_range)) }
+{
+    let l = leading_at(s, at);
+    if at < s.len() && LEADING_BYTES + l.len <= s.len() - at {
+        Some(l)
+    } else {
+        None
     }
 }
 
@@ -98,6 +76,14 @@ fn field_at(s: &[u8], at: usize, prev: usize, n: usize) -> Field
     }
 }
 
+// Where a field ends.
+pub fn end_of(f: Field) -> usize
+    requires { end_of f < long_range }
+    ensures { result ≡ end_of f }
+{
+    f.at + LEADING_BYTES + f.len
+}
+
 // The field at the start.
 pub fn first_field(s: &[u8]) -> Field
     ensures { (result ≡ start s.now) × (result.len < short_range) }
@@ -110,7 +96,7 @@ pub fn next_field(s: &[u8], f: Field) -> Field
     requires { (end_of f ≤ length s.now) × (f.ord ≤ f.at) }
     ensures { (result ≡ after s.now f) × (result.len < short_range) }
 {
-    field_at(s, f.at + LEADING_BYTES + f.len, f.tag, f.ord + 1)
+    field_at(s, end_of(f), f.tag, f.ord + 1)
 }
 
 // ---- framing
@@ -120,54 +106,34 @@ pub fn runs_past(s: &[u8], f: Field) -> bool
     requires { (f.at ≤ length s.now) × (f.len < short_range) }
     ensures { result ≡ ltb (length s.now) (end_of f) }
 {
-    s.len() < f.at + LEADING_BYTES + f.len
+    s.len() < end_of(f)
 }
 
-// What was found before f, or f where its tag is bad.
-fn first_of(bad: Found, f: Field) -> Found
-    ensures { result ≡ first_of bad f }
-{
-    match bad {
-        Found::At(at) => Found::At(at),
-        Found::Nothing => {
-            if bad_tag(f) {
-                return Found::At(f.at);
-            }
-            Found::Nothing
-        }
-    }
-}
-
-// Goes through the fields once, for refusals 2 and 3.
-pub fn frame(s: &[u8]) -> Framed
-    requires { length s.now ≤ longest_image }
+// Goes through the fields once, for refusals 2 and 3: the offset of the field that runs past the image's end, or
+// else of the first field with a bad tag, if there is one.
+pub fn frame(s: &[u8]) -> Result<Option<usize>, usize>
     ensures { result ≡ framed s.now }
 {
-    let mut bad = Found::Nothing;
-    let mut f = first_field(s);
-    while f.at < s.len() {
-        if runs_past(s, f) {
-            return Framed::Cut(f.at);
-        }
-        bad = first_of(bad, f);
-        f = next_field(s, f);
+    let mut bad = None;
+    let mut end = 0;
+    for f in Fields::of(s) {
+        bad = bad.or(bad_tag(f).then_some(f.at));
+        end = end_of(f);
     }
-    Framed::Whole(bad)
+    if end < s.len() { Err(end) } else { Ok(bad) }
 }
 
 // ---- refusals 4 to 8
 
-// The first field that is at fault under refusal k, where there are n texts.
-pub fn first_fault(k: usize, n: usize, s: &[u8]) -> Found
-    requires { Ended s.now }
+// The offset of the first field that is at fault under refusal k, where there are n texts.
+pub fn first_fault(k: usize, n: usize, s: &[u8]) -> Option<usize>
+    requires { length s.now ≤ longest_image }
     ensures { result ≡ found_of (first (fault k n s.now) (fields s.now)) }
 {
-    let mut g = first_field(s);
-    while g.at < s.len() {
-        if is_at_fault(k, n, s, g) {
-            return Found::At(g.at);
+    for f in Fields::of(s) {
+        if is_at_fault(k, n, s, f) {
+            return Some(f.at);
         }
-        g = next_field(s, g);
     }
-    Found::Nothing
+    None
 }

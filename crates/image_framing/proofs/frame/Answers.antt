@@ -1,23 +1,19 @@
 -- `image_framing::frame` meets its contract: what is found is what was found before, then what the rest holds.
-use borrow.Author.Rules.{rules}
-use Rattle.image_framing.proofs.Finds.{framing-start, framing-turn, framing-cut, framing-whole}
-use Rattle.image_framing.proofs.Walks.{past_end, within_end, walk-less}
+use Rattle.std.proofs.Common.{rules}
+use Rattle.image_framing.proofs.Finds.{framing-start, framing-fits, framing-next, framing-cut, framing-whole}
 use Rattle.image_framing.proofs.frame.Goals as goal
 
 pub loop-f-init : goal.loop-f-init
-loop-f-init c = search (framing-start, rules)
+loop-f-init c = framing-start cc
 
-pub returns-then-runs_past : goal.returns-then-runs_past
-returns-then-runs_past c = search (framing-cut, past_end, rules)
-
-pub next_field-f-requires : goal.next_field-f-requires
-next_field-f-requires c = search (within_end, rules)
-
-pub loop-f-smaller : goal.loop-f-smaller
-loop-f-smaller c = search (walk-less, rules)
+pub end_of-end-requires : goal.end_of-end-requires
+end_of-end-requires c = search (framing-fits, rules)
 
 pub loop-f-preserved : goal.loop-f-preserved
-loop-f-preserved c = search (framing-turn, within_end, rules)
+loop-f-preserved c = framing-next c.loop-f.invariant c.in-Some.ensures.steps c.bad_tag.ensures c.then_some.ensures c.or-bad.ensures c.end_of-end.ensures
 
-pub returns : goal.returns
-returns c = search (framing-whole, rules)
+pub returns-then-end-s : goal.returns-then-end-s
+returns-then-end-s c = framing-cut c.loop-f.invariant c.in-None.ensures.steps.0 c.if-end-s.true
+
+pub returns-else-end-s : goal.returns-else-end-s
+returns-else-end-s c = framing-whole c.loop-f.invariant c.in-None.ensures.steps.0 c.if-end-s.false

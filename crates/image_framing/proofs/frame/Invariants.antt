@@ -1,11 +1,6 @@
 -- `image_framing::frame` meets its contract: what is found is what was found before, then what the rest holds.
-use Prim.Native.Nat.{◌-◌}
-use lib.ListN.{length}
 use Rattle.image_framing.proofs.Finds.{Framing}
 use Rattle.image_framing.proofs.frame.Given as goal
 
 abbrev pub invariant-loop-f : goal.invariant-loop-f
-invariant-loop-f l = Framing l.s l.bad l.f
-
-abbrev pub decreases-loop-f : goal.decreases-loop-f
-decreases-loop-f l = length l.s - l.f.at
+invariant-loop-f l = Framing l.s l.f-iterator l.bad l.end

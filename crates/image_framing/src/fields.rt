@@ -1,0 +1,67 @@
+// The fields of an image as an iterator.
+ghost use Rattle.std.specs.Prelude.{◌≡◌, ◌≤◌};
+ghost use Rattle.std.specs.Iterator.{YieldsFirst, item_count};
+ghost use Rattle.oce_model.specs.Image.{fields};
+
+use crate::{end_of, ord_of, whole_at};
+use oce_model::Field;
+use std::marker::Model;
+
+// The fields that an image has left, up to the first that runs past its end: those from an offset on, behind n
+// fields with the tag prev.
+#[derive(Drop)]
+pub struct Fields<'a> {
+    bytes: &'a [u8],
+    at: usize,
+    prev: usize,
+    n: usize,
+}
+
+impl<'a> Model for Fields<'a> {
+    ghost use Rattle.std.specs.Prelude.{◌≤◌, List};
+    ghost use Rattle.oce_model.specs.declared.Field.{Field};
+    ghost use Rattle.image_framing.specs.Walk.{rest_at};
+
+    ghost Value = { List Field };
+
+    ghost view = { λ it. rest_at it.bytes.now it.at it.prev it.n };
+
+    ghost invariant = { λ it. it.n ≤ it.at };
+}
+
+impl<'a> Fields<'a> {
+    // All fields of an image.
+    pub fn of(s: &'a [u8]) -> Fields<'a>
+        ensures { result ≡ fields s.now }
+    {
+        Fields {
+            bytes: s,
+            at: 0,
+            prev: 0,
+            n: 0,
+        }
+    }
+}
+
+impl Iterator for Fields<'_> {
+    type Item = Field;
+
+    ghost next_gives = { YieldsFirst (λ rest. rest) };
+
+    ghost remaining = { item_count (λ rest. rest) };
+
+    fn next(&mut self) -> Option<Field> {
+        let l = whole_at(self.bytes, self.at)?;
+        let f = Field {
+            at: self.at,
+            tag: l.tag,
+            len: l.len,
+            prev: self.prev,
+            ord: ord_of(self.prev, self.n, l.tag),
+        };
+        self.at = end_of(f);
+        self.prev = f.tag;
+        self.n = f.ord + 1;
+        Some(f)
+    }
+}
