@@ -12,6 +12,8 @@ use lib.Seq.{drop-append_seam}
 use mir.Syntax.{w32}
 use mir.Val.{Fits}
 use borrow.Author.Tests.{lt-ltb, le-ltb, ltb-true}
+use Rattle.std.specs.Prelude as code
+use Rattle.std.specs.Prelude.{None, Some, Result, Ok, Err}
 use Rattle.base.specs.Buffers.{starts_with}
 use Rattle.base.proofs.Lists.{or_parts}
 use Rattle.oce_model.specs.Format.{text_tag, shortest_image, longest_image}
@@ -22,10 +24,7 @@ use Rattle.oce_model.proofs.Accepted.{stops}
 use Rattle.oce_model.proofs.Fields.{first-none, none-mem, none_of}
 use Rattle.oce_model.proofs.Places.{Chain, end, and, end_at, chain}
 use Rattle.image_framing.specs.Walk.{Ended, found_of, framed}
-use Rattle.image_framing.specs.declared.Found.{Found}
-use Rattle.image_framing.specs.declared.Found.TheVariants.{At, Nothing}
-use Rattle.image_framing.specs.declared.Framed.{Framed}
-use Rattle.image_framing.specs.declared.Framed.TheVariants.{Cut, Whole}
+use Rattle.image_framing.proofs.Finds.{found_none, found_some}
 use Rattle.image_accept.specs.Layout.{Laid, TabledIfAccepted, Tabled, acceptance, accepts, layout_of, offsets_of}
 use Rattle.image_sieve.specs.Faulty.{at_fault}
 use Rattle.image_accept.specs.Sections.{Tagged, verdict_of}
@@ -38,14 +37,6 @@ use Rattle.image_accept.specs.declared.Verdict.{Verdict}
 use Rattle.image_accept.specs.declared.Verdict.TheVariants.{Away, Fine}
 
 -- ---- what is found
-
-found_none : (o : Option ℕ) → Nothing ≡ found_of o → o ≡ none
-found_none none h = refl
-found_none (some at) h = let z : ◌≡◌ {A = ℕ} 0 1 = cc in absurd (omega arith)
-
-found_some : (o : Option ℕ) (at : ℕ) → At at ≡ found_of o → o ≡ some at
-found_some none at h = let z : ◌≡◌ {A = ℕ} 0 1 = cc in absurd (omega arith)
-found_some (some x) at h = cc
 
 -- a field that is found lies before the end
 found_in : (p : Field → Bool) (e at : ℕ) (l : List Field) → Chain e at l → (x : ℕ) → first p l ≡ some x → x < e
@@ -60,7 +51,7 @@ found_in p e at l (and {f = f} {l = r} a b c) x h = arm (p f) h (found_in p e (e
 small : {at : ℕ} → at ≤ longest_image → Fits w32 at
 small h = record { fits = omega arith }
 
-pub found-small : (p : Field → Bool) {s : List ℕ} {at : ℕ} {found : Found} → Ended s → found ≡ found_of (first p (fields s)) → found ≡ At at → Fits w32 at
+pub found-small : (p : Field → Bool) {s : List ℕ} {at : ℕ} {found : code.Option ℕ} → Ended s → found ≡ found_of (first p (fields s)) → found ≡ Some at → Fits w32 at
 found-small p {s} {at} w e h =
     small (omega (arith, w.short, found_in p (length s) 0 (fields s) (chain s) at (found_some (first p (fields s)) at (sym h ∙ e))))
 
@@ -86,10 +77,10 @@ module _ {s : List ℕ} {k : ℕ} (v : Refusing s k) where
       let j : 9 - k ≡ suc (9 - (k + 1)) = omega arith in
       v.same ∙ rw j (one-step (9 - (k + 1)) k s n o e g)
 
-  pub refusing-turn : {n : ℕ} {found : Found} → k < 9 → n ≡ length (of_tag text_tag (fields s)) → found ≡ found_of (first (fault k n s) (fields s)) → found ≡ Nothing → Refusing s (k + 1)
+  pub refusing-turn : {n : ℕ} {found : code.Option ℕ} → k < 9 → n ≡ length (of_tag text_tag (fields s)) → found ≡ found_of (first (fault k n s) (fields s)) → found ≡ None → Refusing s (k + 1)
   refusing-turn {n} h e f g = record { within = omega arith; same = step none h e (found_none (first (fault k n s) (fields s)) (sym g ∙ f)) }
 
-  pub refusing-found : {n at : ℕ} {found : Found} → k < 9 → n ≡ length (of_tag text_tag (fields s)) → found ≡ found_of (first (fault k n s) (fields s)) → found ≡ At at
+  pub refusing-found : {n at : ℕ} {found : code.Option ℕ} → k < 9 → n ≡ length (of_tag text_tag (fields s)) → found ≡ found_of (first (fault k n s) (fields s)) → found ≡ Some at
       → Away k at ≡ verdict_of (refusals_from 5 4 s (fields s))
   refusing-found {n} {at} h e f g = sym (ap verdict_of (step (some at) h e (found_some (first (fault k n s) (fields s)) at (sym g ∙ f))))
 
@@ -123,43 +114,43 @@ module _ (s : List ℕ) where
   unfolding refusal
   too_long g h = sym (rw (le-ltb (length s) shortest_image g, lt-ltb longest_image (length s) h))
 
-  module _ {r : Framed} (e : r ≡ framed s) where
-    cut_at : {at : ℕ} → r ≡ Cut at → (ltb (stop s) (length s) ≡ true) × (stop s ≡ at)
+  module _ {r : Result (code.Option ℕ) ℕ} (e : r ≡ framed s) where
+    cut_at : {at : ℕ} → r ≡ Err at → (ltb (stop s) (length s) ≡ true) × (stop s ≡ at)
     unfolding framed
     cut_at {at} h = arm (ltb (stop s) (length s)) (sym h ∙ e)
       where
-        arm : (b : Bool) → Cut at ≡ cond b (Cut (stop s)) (Whole (found_of (first bad_tag (fields s)))) → (b ≡ true) × (stop s ≡ at)
+        arm : (b : Bool) → Err at ≡ cond b (Err (stop s)) (Ok (found_of (first bad_tag (fields s)))) → (b ≡ true) × (stop s ≡ at)
         arm true q = (refl, cc)
         arm false q = let z : ◌≡◌ {A = ℕ} 0 1 = cc in absurd (omega arith)
 
-    whole-bad : {bad : Found} → r ≡ Whole bad → (ltb (stop s) (length s) ≡ false) × (bad ≡ found_of (first bad_tag (fields s)))
+    whole-bad : {bad : code.Option ℕ} → r ≡ Ok bad → (ltb (stop s) (length s) ≡ false) × (bad ≡ found_of (first bad_tag (fields s)))
     unfolding framed
     whole-bad {bad} h = arm (ltb (stop s) (length s)) (sym h ∙ e)
       where
-        arm : (b : Bool) → Whole bad ≡ cond b (Cut (stop s)) (Whole (found_of (first bad_tag (fields s)))) → (b ≡ false) × (bad ≡ found_of (first bad_tag (fields s)))
+        arm : (b : Bool) → Ok bad ≡ cond b (Err (stop s)) (Ok (found_of (first bad_tag (fields s)))) → (b ≡ false) × (bad ≡ found_of (first bad_tag (fields s)))
         arm true q = let z : ◌≡◌ {A = ℕ} 0 1 = cc in absurd (omega arith)
         arm false q = (refl, cc)
 
-    pub cut_small : {at : ℕ} → r ≡ Cut at → length s ≤ longest_image → Fits w32 at
+    pub cut_small : {at : ℕ} → r ≡ Err at → length s ≤ longest_image → Fits w32 at
     cut_small h l = let p = cut_at h in small (omega (arith, ltb-true (stop s) (length s) p.0, p.1))
 
-    pub bad-small : {at : ℕ} {bad : Found} → r ≡ Whole bad → bad ≡ At at → length s ≤ longest_image → Fits w32 at
+    pub bad-small : {at : ℕ} {bad : code.Option ℕ} → r ≡ Ok bad → bad ≡ Some at → length s ≤ longest_image → Fits w32 at
     bad-small h b l = let p = whole-bad h in found-small bad_tag (record { ends = stops s p.0; short = l }) p.1 b
 
-    pub whole-tagged : {bad : Found} → r ≡ Whole bad → bad ≡ Nothing → length s ≤ longest_image → Tagged s
+    pub whole-tagged : {bad : code.Option ℕ} → r ≡ Ok bad → bad ≡ None → length s ≤ longest_image → Tagged s
     whole-tagged h b l = let p = whole-bad h in record { ended = record { ends = stops s p.0; short = l }; tags = found_none (first bad_tag (fields s)) (sym b ∙ p.1) }
 
     module _ (g : shortest_image ≤ length s) (l : length s ≤ longest_image) where
-      pub refused-cut : {at : ℕ} → r ≡ Cut at → Away 2 at ≡ verdict_of (refusal s)
+      pub refused-cut : {at : ℕ} → r ≡ Err at → Away 2 at ≡ verdict_of (refusal s)
       unfolding refusal
       refused-cut h =
           let p = cut_at h in
           sym (rw (le-ltb (length s) shortest_image g, le-ltb longest_image (length s) l, p.0, p.1))
 
-      pub refused-bad : {at : ℕ} {bad : Found} → r ≡ Whole bad → bad ≡ At at → Away 3 at ≡ verdict_of (refusal s)
+      pub refused-bad : {at : ℕ} {bad : code.Option ℕ} → r ≡ Ok bad → bad ≡ Some at → Away 3 at ≡ verdict_of (refusal s)
       refused-bad {at} h b = sym (ap verdict_of (later s (some at) g l (whole-bad h).0 (found_some (first bad_tag (fields s)) at (sym b ∙ (whole-bad h).1))))
 
-      pub whole-framing : {bad : Found} → r ≡ Whole bad → bad ≡ Nothing → WellFramed s
+      pub whole-framing : {bad : code.Option ℕ} → r ≡ Ok bad → bad ≡ None → WellFramed s
       whole-framing h b = tagged-framing g (whole-tagged h b l)
 
 -- ---- no field at fault
@@ -242,11 +233,11 @@ module _ (t : ℕ) (s table : List ℕ) where
   pub long-table : shortest_image ≤ length s → longest_image < length s → TabledIfAccepted t s table
   long-table g h = table-refused s (too_long s g h) t table
 
-  module _ {r : Framed} (e : r ≡ framed s) (g : shortest_image ≤ length s) (l : length s ≤ longest_image) where
-    pub cut-table : {at : ℕ} → r ≡ Cut at → TabledIfAccepted t s table
+  module _ {r : Result (code.Option ℕ) ℕ} (e : r ≡ framed s) (g : shortest_image ≤ length s) (l : length s ≤ longest_image) where
+    pub cut-table : {at : ℕ} → r ≡ Err at → TabledIfAccepted t s table
     cut-table h = table-refused s (refused-cut s e g l h) t table
 
-    pub bad-table : {at : ℕ} {bad : Found} → r ≡ Whole bad → bad ≡ At at → TabledIfAccepted t s table
+    pub bad-table : {at : ℕ} {bad : code.Option ℕ} → r ≡ Ok bad → bad ≡ Some at → TabledIfAccepted t s table
     bad-table h b = table-refused s (refused-bad s e g l h b) t table
 
 -- ---- the answer for an image with good tags

@@ -11,7 +11,7 @@ ghost use Rattle.image_accept.specs.Layout.{layout_of, offsets_of, acceptance, T
 ghost use Rattle.image_accept.specs.Sections.{Tagged, Begins, PassedSection, fixed_of, verdict_of};
 ghost use Rattle.image_accept.specs.Sifting.{AtStart, Entering, Sifts, TabledIfFine, ReadyFor, Follows, Fixes, Surveys, WellFramed};
 
-use image_framing::{Found, Framed, first_fault, first_field, frame, next_field, runs_past};
+use image_framing::{first_fault, first_field, frame, next_field, runs_past};
 use image_sieve::{is_faulty, is_faulty_list, other_faulty};
 use numbers::{at64, int_of_bits};
 use oce_model::{
@@ -173,13 +173,13 @@ fn refuse_fields(s: &[u8]) -> Verdict
     while k < 9 {
         let found = first_fault(k, n, s);
         match found {
-            Found::At(at) => {
+            Some(at) => {
                 return Verdict::Away {
                     number: k as u32,
                     at: at as u32,
                 };
             }
-            Found::Nothing => {}
+            None => {}
         }
         k += 1;
     }
@@ -514,16 +514,16 @@ fn try_refusals(s: &[u8], texts: &mut [usize], blocks: &mut [usize]) -> Acceptan
 {
     let framed = frame(s);
     match framed {
-        Framed::Cut(at) => Acceptance::Refused {
+        Err(at) => Acceptance::Refused {
             number: 2,
             at: at as u32,
         },
-        Framed::Whole(bad) => match bad {
-            Found::At(at) => Acceptance::Refused {
+        Ok(bad) => match bad {
+            Some(at) => Acceptance::Refused {
                 number: 3,
                 at: at as u32,
             },
-            Found::Nothing => decide(s, texts, blocks),
+            None => decide(s, texts, blocks),
         },
     }
 }

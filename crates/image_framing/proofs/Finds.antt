@@ -1,8 +1,10 @@
 -- Laws of what is left of the fields in a loop over all of them, of where they stop, and of what framing and a search for the first that passes a test have found.
 use Prim.Native.Nat.{ℕ, zero, suc, ◌<◌, ◌≤◌}
+use native.Mathlib.Omega.{arith}
 use mathlib.Core.Path.{◌≡◌, refl, sym, ap, ◌∙◌}
 use mathlib.Core.Bool.{Bool, true, false, cond}
 use mathlib.Core.List.{List, [], ◌∷◌, Memᴰ}
+use mathlib.Core.Option as maybe
 use mathlib.Core.Option.{none, some}
 use lib.Dec.{leb}
 use lib.ListN.{length}
@@ -70,6 +72,14 @@ module _ {s : List ℕ} {rest : List Field} {end : ℕ} (v : Stopping s rest end
   stopping-end e = sym v.stops ∙ ap (stop_after end) e
 
 -- ---- a search
+
+pub found_none : (o : maybe.Option ℕ) → None ≡ found_of o → o ≡ none
+found_none none h = refl
+found_none (some at) h = let z : ◌≡◌ {A = ℕ} 0 1 = cc in absurd (omega arith)
+
+pub found_some : (o : maybe.Option ℕ) (at : ℕ) → Some at ≡ found_of o → o ≡ some at
+found_some none at h = let z : ◌≡◌ {A = ℕ} 0 1 = cc in absurd (omega arith)
+found_some (some x) at h = cc
 
 -- none of the fields passed passes the test p
 pub record Searching (p : Field → Bool) (s : List ℕ) (rest : List Field) : Type 0 where

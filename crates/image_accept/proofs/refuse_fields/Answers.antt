@@ -6,11 +6,11 @@ use Rattle.image_accept.proofs.refuse_fields.Goals as goal
 pub loop-k-init : goal.loop-k-init
 loop-k-init c = search (refusing-start, rules)
 
-pub overflow_cast-result-in-At : goal.overflow_cast-result-in-At
-overflow_cast-result-in-At c = search (found-small, rules)
+pub overflow_cast-result-in-Some : goal.overflow_cast-result-in-Some
+overflow_cast-result-in-Some c = search (found-small, rules)
 
-pub returns-in-At : goal.returns-in-At
-returns-in-At c = search (refusing-found, rules)
+pub returns-in-Some : goal.returns-in-Some
+returns-in-Some c = search (refusing-found, rules)
 
 pub loop-k-preserved : goal.loop-k-preserved
 loop-k-preserved c = search (refusing-turn, rules)
