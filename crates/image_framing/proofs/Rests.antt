@@ -2,7 +2,7 @@
 use Prim.Native.Nat.{ℕ, zero, suc, ◌+◌, ◌≤◌}
 use native.Mathlib.Numerals.{add-one}
 use native.Mathlib.Omega.{arith}
-use mathlib.Core.Path.{◌≡◌, refl, sym, ap}
+use mathlib.Core.Path.{◌≡◌, refl, sym}
 use mathlib.Core.Bool.{false}
 use mathlib.Core.List.{List, [], ◌∷◌}
 use lib.Dec.{leb}
@@ -44,11 +44,6 @@ from-next (suc k) s at prev n h g =
 pub rest-all : (s : List ℕ) → rest_at s 0 0 0 ≡ fields s
 unfolding rest_at fields
 rest-all s = refl
-
--- a whole field ends within the image
-pub rest-end : (s : List ℕ) (at : ℕ) {l : Leading} → Some l ≡ whole_at s at → at + leading_bytes + l.len ≤ length s
-unfolding field_end
-rest-end s at w = let h = whole-is s at w in omega (arith, h.0, ap (λ (l : Leading). l.len) h.1)
 
 module _ (s : List ℕ) (at prev n : ℕ) where
   pub rest-none : None ≡ whole_at s at → rest_at s at prev n ≡ []

@@ -2,9 +2,9 @@
 // fault under a refusal.
 #![tactic(auto)]
 
-ghost use Rattle.std.specs.Prelude.{◌≡◌, ◌<◌, ◌≤◌, ltb, length, IfSome};
+ghost use Rattle.std.specs.Prelude.{◌≡◌, ◌+◌, ◌<◌, ◌≤◌, ltb, length, IfSome};
 ghost use Rattle.numbers.specs.Bytes.{byte_range, short_range, long_range};
-ghost use Rattle.oce_model.specs.Format.{longest_image};
+ghost use Rattle.oce_model.specs.Format.{leading_bytes, longest_image};
 ghost use Rattle.oce_model.specs.Image.{ord_of, fields, first};
 ghost use Rattle.oce_model.specs.Refusals.{fault};
 ghost use Rattle.image_framing.specs.Walk.{leading_at, whole_at, placed, start, after, end_of, found_of, framed};
@@ -52,7 +52,7 @@ pub fn leading_at(s: &[u8], at: usize) -> Leading
 // The same, where all of the field lies in the image.
 pub fn whole_at(s: &[u8], at: usize) -> Option<Leading>
     ensures whole { result ≡ whole_at s.now at }
-    ensures ranges { IfSome result (λ l. (l.tag < byte_range) × (l.len < short_range)) }
+    ensures bounds { IfSome result (λ l. (l.tag < byte_range) × (l.len < short_range) × (at + leading_bytes + l.len ≤ length s.now)) }
 {
     let l = leading_at(s, at);
     if at < s.len() && LEADING_BYTES + l.len <= s.len() - at {

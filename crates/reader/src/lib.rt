@@ -4,7 +4,7 @@
 ghost use Rattle.std.specs.Prelude.{◌≡◌};
 ghost use Rattle.reader.specs.Reading.{found_at, after_at, step_at};
 
-use image_framing::leading_at;
+use image_framing::whole_at;
 use oce_model::LEADING_BYTES;
 
 #[derive(Clone, Copy)]
@@ -38,22 +38,21 @@ pub struct Step {
 fn step_at(image: &[u8], at: usize) -> Step
     ensures { result ≡ step_at image.now at }
 {
-    if at < image.len() {
-        let l = leading_at(image, at);
-        if l.whole {
+    match whole_at(image, at) {
+        Some(l) => {
             let end = at + LEADING_BYTES + l.len;
-            return Step {
+            Step {
                 found: Found::Field {
                     tag: l.tag as u8,
                     len: l.len as u16,
                 },
                 at: end,
-            };
+            }
         }
-    }
-    Step {
-        found: Found::End,
-        at,
+        None => Step {
+            found: Found::End,
+            at,
+        },
     }
 }
 

@@ -3,16 +3,13 @@ use native.Mathlib.Omega.{arith}
 use mathlib.Core.Path.{sym, ap, ◌∙◌}
 use lib.ListN.{length}
 use borrow.Author.Rules.{rules}
-use Rattle.image_framing.proofs.Rests.{rest-none, rest-end, rest-next}
+use Rattle.image_framing.proofs.Rests.{rest-none, rest-next}
 use Rattle.image_framing.proofs.fields.FieldsIterator.next.Goals as goal
 
 pub returns-in_err-l-clause-steps : goal.returns-in_err-l-clause-steps
 returns-in_err-l-clause-steps c =
     let e = sym c.self.view_is ∙ rest-none _ _ _ _ c.in_err-l.ensures.whole in
     rw c.from_residual.ensures (e, e)
-
-pub end_of-self-inside-requires : goal.end_of-self-inside-requires
-end_of-self-inside-requires c = omega (arith, rest-end _ _ c.in_ok-l.ensures.whole, c.self.told)
 
 pub returns-clause-steps : goal.returns-clause-steps
 returns-clause-steps c = search (rest-next, rules)
