@@ -1,6 +1,6 @@
 -- Whether what a check of a stored image gives agrees with the stored answer, and if not, what differs first: docs/STORED_ANSWERS.md, 'What is compared'.
 use Rattle.std.specs.Prelude.{ℕ, ◌≤◌, ◌≡◌, cond, ◌&&◌, List, eqb, ltb, length, take, drop}
-use Rattle.std.proofs.Math.Option.{none}
+use Rattle.std.specs.Prelude.{None}
 use Rattle.oce_model.specs.Format.{longest_image}
 use Rattle.oce_model.specs.Refusals.{refusal}
 use Rattle.oce_diag.specs.Diagnostics.{errors, warnings}
@@ -49,7 +49,7 @@ agreement f r = agreement_with f r (image_of f r) (answer (image_of f r) longest
 
 -- what a check leaves of an accepted image s: counts, and both buffers
 pub record Leaves (s : List ℕ) (e w : ℕ) (filled report : List ℕ) : Type 0 where
-  pub accepted : refusal s ≡ none
+  pub accepted : refusal s ≡ None
   pub short : length s ≤ longest_image
   pub counts : (e ≡ errors (report_of s)) × (w ≡ warnings (report_of s))
   pub reported : Reported (report_of s) report

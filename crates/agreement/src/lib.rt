@@ -3,7 +3,7 @@
 #![tactic(auto)]
 
 ghost use Rattle.std.specs.Prelude.{◌≡◌, length, take};
-ghost use Rattle.std.proofs.Math.Option.{none};
+ghost use Rattle.std.specs.Prelude.{None};
 ghost use Rattle.oce_model.specs.Refusals.{refusal};
 ghost use Rattle.outcome.specs.Filled.{filled_of};
 ghost use Rattle.outcome.specs.Answer.{report_of};
@@ -53,7 +53,7 @@ fn parts_agree(
     filled: &[u8],
     report: &[u8],
 ) -> Agreement
-    requires { (refusal image.now ≡ none) × Reported (report_of image.now) report.now × (count ≡ length (report_of image.now)) × (take (length image.now) filled.now ≡ filled_of image.now) }
+    requires { (refusal image.now ≡ None) × Reported (report_of image.now) report.now × (count ≡ length (report_of image.now)) × (take (length image.now) filled.now ≡ filled_of image.now) }
     ensures { result ≡ parts_agreement file.now stored image.now }
 {
     let oracle = stored.answer;

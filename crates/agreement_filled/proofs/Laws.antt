@@ -5,7 +5,7 @@ use native.Mathlib.Omega.{arith}
 use mathlib.Core.Path.{◌≡◌, refl, sym, ap, ◌∙◌}
 use mathlib.Core.Bool.{Bool, true, false, cond, ◌&&◌, and-false}
 use mathlib.Core.List.{List}
-use mathlib.Core.Option.{none}
+use Rattle.std.specs.Prelude.{None}
 use lib.Dec.{eqb, ltb}
 use lib.ListN.{length, get_or, take, drop, length-take}
 use lib.Seq.{take_at}
@@ -223,6 +223,6 @@ module _ (f : List ℕ) (at n end : ℕ) (s : List ℕ) where
     filled-same er h k = er ∙ sym (rw (le-leb end (length f) k, ← e, h))
 
   -- an image that is accepted isn't refused
-  pub filled-refused : {a : Acceptance} {number offset : ℕ} → a ≡ acceptance s → a ≡ Refused number offset → refusal s ≡ none → false ≡ filled_agrees f at n end s
+  pub filled-refused : {a : Acceptance} {number offset : ℕ} → a ≡ acceptance s → a ≡ Refused number offset → refusal s ≡ None → false ≡ filled_agrees f at n end s
   unfolding acceptance
-  filled-refused {a} {number} {offset} e h q = let z : a ≡ accepts s none = e ∙ ap (accepts s) q in cc
+  filled-refused {a} {number} {offset} e h q = let z : a ≡ accepts s None = e ∙ ap (accepts s) q in cc

@@ -3,7 +3,7 @@
 #![tactic(auto)]
 
 ghost use Rattle.std.specs.Prelude.{◌≡◌, cond, ◌&&◌, ◌+◌, ◌*◌, ◌≤◌, eqb, length, take};
-ghost use Rattle.std.proofs.Math.Option.{none};
+ghost use Rattle.std.specs.Prelude.{None};
 ghost use Rattle.base.specs.Lists.{same};
 ghost use Rattle.oce_model.specs.Model.{model_of};
 ghost use Rattle.oce_model.specs.Refusals.{refusal};
@@ -126,7 +126,7 @@ pub fn filled_agrees(
     image: &[u8],
     filled: &[u8],
 ) -> bool
-    requires { (refusal image.now ≡ none) × (take (length image.now) filled.now ≡ filled_of image.now) }
+    requires { (refusal image.now ≡ None) × (take (length image.now) filled.now ≡ filled_of image.now) }
     ensures { result ≡ filled_agrees file.now at count end image.now }
 {
     if file.len() < end {

@@ -1,4 +1,5 @@
 pub mod Lists
+pub mod Options
 pub mod Buffers
 pub mod Parts
 pub mod Members

@@ -5,7 +5,8 @@ use native.Mathlib.Omega.{arith}
 use mathlib.Core.Path.{◌≡◌, refl, sym, ap, ◌∙◌}
 use mathlib.Core.Bool.{Bool, true, false, cond, ◌&&◌}
 use mathlib.Core.List.{List, [], ◌∷◌, ◌++◌, map, append_assoc, append-nil}
-use mathlib.Core.Option.{none, some, some-ne-none}
+use Rattle.std.specs.Prelude.{Some, None}
+use Rattle.base.proofs.Options.{some-ne-none}
 use lib.Dec.{leb, ltb, eqb}
 use lib.ListN.{length, drop, length-append}
 use lib.Seq.{take-append_seam, drop-append-add}
@@ -101,7 +102,7 @@ stopped (s ∷ ss) k pre rest h =
     ∙ rw (← (append_assoc pre (image_field s) (pack ss)), append_assoc pre (image_field s) (pack ss ++ rest)))
 
 -- none of them is bad
-rows-good : (ss : List (List ℕ)) (at prev o : ℕ) → o + length ss ≤ most_images → first bad_field (rows ss at prev o) ≡ none
+rows-good : (ss : List (List ℕ)) (at prev o : ℕ) → o + length ss ≤ most_images → first bad_field (rows ss at prev o) ≡ None
 unfolding rows bad_field first
 rows-good [] at prev o h = refl
 rows-good (s ∷ ss) at prev o h =
@@ -109,12 +110,12 @@ rows-good (s ∷ ss) at prev o h =
     let g : leb most_images o ≡ false = lt-leb most_images o l in
     first-later bad_field (row image_tag (length s) at prev o) (rows ss (at + leading_bytes + length s) image_tag (suc o)) (rw g) ∙ rows-good ss (at + leading_bytes + length s) image_tag (suc o) (omega arith)
 
-first-behind : (p : Field → Bool) (fs gs : List Field) → first p fs ≡ none → first p (fs ++ gs) ≡ first p gs
+first-behind : (p : Field → Bool) (fs gs : List Field) → first p fs ≡ None → first p (fs ++ gs) ≡ first p gs
 unfolding first
 first-behind p [] gs h = refl
 first-behind p (f ∷ fs) gs h = arm (p f) h (first-behind p fs gs)
   where
-    arm : (b : Bool) → cond b (some f.at) (first p fs) ≡ none → (first p fs ≡ none → first p (fs ++ gs) ≡ first p gs) → cond b (some f.at) (first p (fs ++ gs)) ≡ first p gs
+    arm : (b : Bool) → cond b (Some f.at) (first p fs) ≡ None → (first p fs ≡ None → first p (fs ++ gs) ≡ first p gs) → cond b (Some f.at) (first p (fs ++ gs)) ≡ first p gs
     arm true e ih = absurd (some-ne-none f.at e)
     arm false e ih = ih e
 
@@ -171,7 +172,7 @@ packed-images ss h =
     rw (rw (append-nil (pack ss)) at e) (contents ss [] [] (pack ss) 0 0 h (sym (append-nil (pack ss))))
 
 -- and no field of it is at fault, where there are no more than there may be
-pub packed-good : (ss : List (List ℕ)) → packable ss ≡ true → length ss ≤ most_images → first_fault (pack ss) ≡ none
+pub packed-good : (ss : List (List ℕ)) → packable ss ≡ true → length ss ≤ most_images → first_fault (pack ss) ≡ None
 unfolding first_fault
 packed-good ss h few =
     let k = length (pack ss ++ []) - length ss in
@@ -199,17 +200,17 @@ bad-there s at = arm (eqb (byte s at) image_tag) refl
     arm false e = rw e
 
 there : (s : List ℕ) (at j : ℕ) → at < length s
-    → or_else (first bad_field (fields_from (suc j) s at image_tag most_images)) (cond (ltb (stop_from (suc j) s at) (length s)) (some (stop_from (suc j) s at)) none) ≡ some at
+    → or_else (first bad_field (fields_from (suc j) s at image_tag most_images)) (cond (ltb (stop_from (suc j) s at) (length s)) (Some (stop_from (suc j) s at)) None) ≡ Some at
 unfolding fields_from stop_from first field_at
 there s at j l = arm (leb (field_end s at) (length s)) refl
   where
     arm : (b : Bool) → leb (field_end s at) (length s) ≡ b
-        → or_else (first bad_field (fields_from (suc j) s at image_tag most_images)) (cond (ltb (stop_from (suc j) s at) (length s)) (some (stop_from (suc j) s at)) none) ≡ some at
+        → or_else (first bad_field (fields_from (suc j) s at image_tag most_images)) (cond (ltb (stop_from (suc j) s at) (length s)) (Some (stop_from (suc j) s at)) None) ≡ Some at
     arm true e = rw (e, bad-there s at)
     arm false e = rw (e, lt-ltb at (length s) l)
 
 -- 4,096 images, and a field behind them, cut short or not: refusal 11 at its offset
-pub one-beyond : (ss : List (List ℕ)) (rest : List ℕ) → packable ss ≡ true → length ss ≡ most_images → 0 < length rest → first_fault (pack ss ++ rest) ≡ some (length (pack ss))
+pub one-beyond : (ss : List (List ℕ)) (rest : List ℕ) → packable ss ≡ true → length ss ≡ most_images → 0 < length rest → first_fault (pack ss ++ rest) ≡ Some (length (pack ss))
 unfolding first_fault
 one-beyond ss rest h full more =
     let n = length-append (pack ss) rest in

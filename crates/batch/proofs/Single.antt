@@ -3,7 +3,7 @@ use Prim.Native.Nat.{ℕ, ◌+◌, ◌*◌}
 use native.Mathlib.Omega.{arith}
 use mathlib.Core.Path.{◌≡◌, refl, sym, ap, ◌∙◌}
 use mathlib.Core.List.{List, [], ◌∷◌}
-use mathlib.Core.Option.{Option, none, some}
+use Rattle.std.specs.Prelude.{Option, Some, None}
 use lib.ListN.{length, length-replicate}
 use lib.Seq.{take-append_seam}
 use borrow.Author.Tests.{le-ltb}
@@ -27,8 +27,8 @@ unfolding summary_of image_report answer report_after starts_with left_of
 as-single s f r room = arm (refusal s) refl
   where
     arm : (o : Option Refusal) → refusal s ≡ o → AsSingle s f r
-    arm (some x) e = record { numbers = rw e; bytes = rw e; after = rw e }
-    arm none e =
+    arm (Some x) e = record { numbers = rw e; bytes = rw e; after = rw e }
+    arm None e =
         let h : answer s (length f) (length r) ≡ Checked (errors (report_of s)) (warnings (report_of s)) =
         rw (e, le-ltb (length f) (length s) room.filled, le-ltb (length r) (report_size (report_of s)) room.report) in
         let n : diagnostic_size * (errors (report_of s) + warnings (report_of s)) ≡ length (report_bytes (report_of s)) =

@@ -2,7 +2,7 @@
 use Prim.Native.Nat.{ℕ, ◌+◌, ◌*◌}
 use mathlib.Core.Path.{◌≡◌, refl, ◌∙◌}
 use mathlib.Core.List.{List}
-use mathlib.Core.Option.{Option, none, some}
+use Rattle.std.specs.Prelude.{Option, Some, None}
 use lib.ListN.{length, length-append}
 use Rattle.numbers.specs.Bytes.{le_bytes}
 use Rattle.oce_model.specs.Refusals.{Refusal, refusal}
@@ -23,8 +23,8 @@ unfolding image_report summary_of
 report-long t = arm (refusal t)
   where
     arm : (o : Option Refusal) → length (report_by t o) ≡ diagnostic_size * ((summary_by t o).errors + (summary_by t o).warnings)
-    arm none = rw (report_bytes-length (report_of t), errors-warnings (report_of t))
-    arm (some r) = refl
+    arm None = rw (report_bytes-length (report_of t), errors-warnings (report_of t))
+    arm (Some r) = refl
 
 pub output-long : (t : List ℕ) → length (image_output t) ≡ summary_size + diagnostic_size * ((summary_of t).errors + (summary_of t).warnings)
 unfolding image_output

@@ -1,6 +1,6 @@
 -- The answer of a call for a batch, and what it leaves in the output buffer. FORMAT 22.
 use Rattle.std.specs.Prelude.{ℕ, cond, List, [], ◌∷◌, ltb, length}
-use Rattle.std.proofs.Math.Option.{Option, none, some}
+use Rattle.std.specs.Prelude.{Option, Some, None}
 use Rattle.base.specs.Buffers.{starts_with}
 use Rattle.batch.specs.Fields.{first_fault}
 use Rattle.batch.specs.Output.{batch_output, bytes_needed}
@@ -13,8 +13,8 @@ answer_with needed room = cond (ltb room needed) (Refused 12 needed) (Written ne
 
 -- 11 is asked of the whole batch, then 12
 abbrev pub batch_answer_for : List ℕ → ℕ → Option ℕ → BatchAnswer
-batch_answer_for s room (some at) = Refused 11 at
-batch_answer_for s room none = answer_with (bytes_needed s) room
+batch_answer_for s room (Some at) = Refused 11 at
+batch_answer_for s room None = answer_with (bytes_needed s) room
 
 unfoldable pub batch_answer : List ℕ → ℕ → BatchAnswer
 batch_answer s room = batch_answer_for s room (first_fault s)

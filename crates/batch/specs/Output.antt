@@ -1,6 +1,6 @@
 -- What the output holds: for each image a field that sums up its check, then its report. FORMAT 22.
 use Rattle.std.specs.Prelude.{ℕ, ◌+◌, List, [], ◌∷◌, ◌++◌, length}
-use Rattle.std.proofs.Math.Option.{Option, none, some}
+use Rattle.std.specs.Prelude.{Option, Some, None}
 use Rattle.numbers.specs.Bytes.{le_bytes}
 use Rattle.oce_model.specs.Format.{leading_bytes}
 use Rattle.oce_model.specs.Refusals.{Refusal, refusal}
@@ -35,8 +35,8 @@ warnings_place = 12
 
 -- An image has the room that it needs. If it is turned away, its refusal's number and offset; otherwise its report's errors and warnings. 0 where there is none.
 abbrev pub summary_by : List ℕ → Option Refusal → Summary
-summary_by s (some r) = record { refusal = r.number; at = r.offset; errors = 0; warnings = 0 }
-summary_by s none = let ds = report_of s in record { refusal = 0; at = 0; errors = errors ds; warnings = warnings ds }
+summary_by s (Some r) = record { refusal = r.number; at = r.offset; errors = 0; warnings = 0 }
+summary_by s None = let ds = report_of s in record { refusal = 0; at = 0; errors = errors ds; warnings = warnings ds }
 
 unfoldable pub summary_of : List ℕ → Summary
 summary_of s = summary_by s (refusal s)
@@ -49,8 +49,8 @@ summary_bytes r =
 
 -- the report behind it: all diagnostics, none of an image that is turned away
 abbrev pub report_by : List ℕ → Option Refusal → List ℕ
-report_by s (some r) = []
-report_by s none = report_bytes (report_of s)
+report_by s (Some r) = []
+report_by s None = report_bytes (report_of s)
 
 unfoldable pub image_report : List ℕ → List ℕ
 image_report s = report_by s (refusal s)

@@ -5,7 +5,7 @@ use mathlib.Core.Logic.{◌≢◌}
 use mathlib.Core.Path.{◌≡◌, refl, sym, ap, ◌∙◌}
 use mathlib.Core.Bool.{Bool, true, false, cond}
 use mathlib.Core.List.{List}
-use mathlib.Core.Option.{Option, none, some}
+use Rattle.std.specs.Prelude.{Option, Some, None}
 use lib.Dec.{leb, ltb}
 use lib.ListN.{length}
 use borrow.Author.Tests.{lt-ltb, le-ltb, eq-eqb, ne_eqb}
@@ -16,7 +16,7 @@ use Rattle.oce_model.proofs.Accepted.{stops}
 use Rattle.oce_model.proofs.Fields.{first-here, first-later}
 use Rattle.image_framing.specs.declared.Found.{Found}
 use Rattle.image_framing.specs.declared.Found.TheVariants.{At, Nothing}
-use Rattle.image_framing.specs.Walk.{Walking, after, end_of, found_of, start}
+use Rattle.image_framing.specs.Walk.{Walking, after, end_of, start}
 use Rattle.image_framing.proofs.Walks.{walk-cut, walk_end, walk_none, walk_start, walk_step, walk-stop}
 use Rattle.batch.specs.Fields.{image_tag, most_images, bad_field, or_else, first_fault}
 use Rattle.batch_framing.specs.Clean.{Clean}
@@ -51,51 +51,51 @@ module _ {s : List ℕ} {f : Field} where
         let k = walk_step v.walk h fits e in
         record { rest = k.later; walk = k.walk; small = l; same = v.same ∙ ap (first bad_field) k.is ∙ first-later bad_field f k.later (sym t ∙ u) }
 
-    pub searching-bad : {b : Bool} → f.at < length s → end_of f ≤ length s → b ≡ bad_field f → b ≡ true → At f.at ≡ found_of (first_fault s)
+    pub searching-bad : {b : Bool} → f.at < length s → end_of f ≤ length s → b ≡ bad_field f → b ≡ true → At f.at ≡ (first_fault s)
     unfolding first_fault
     searching-bad h fits t u =
         let k = walk_step v.walk h fits refl in
         sym (rw (v.same ∙ ap (first bad_field) k.is ∙ first-here bad_field f k.later (sym t ∙ u)))
 
-    pub searching-cut : f.at < length s → length s < end_of f → At f.at ≡ found_of (first_fault s)
+    pub searching-cut : f.at < length s → length s < end_of f → At f.at ≡ (first_fault s)
     unfolding first_fault first
     searching-cut h past =
-        let e : first bad_field (fields s) ≡ none = v.same ∙ ap (first bad_field) (walk_none v.walk past) in
+        let e : first bad_field (fields s) ≡ None = v.same ∙ ap (first bad_field) (walk_none v.walk past) in
         sym (rw (e, walk-cut v.walk past, lt-ltb f.at (length s) h))
 
-    pub searching-none : length s ≤ f.at → Nothing ≡ found_of (first_fault s)
+    pub searching-none : length s ≤ f.at → Nothing ≡ (first_fault s)
     unfolding first_fault first
     searching-none h =
-        let e : first bad_field (fields s) ≡ none = v.same ∙ ap (first bad_field) (walk_end v.walk h) in
+        let e : first bad_field (fields s) ≡ None = v.same ∙ ap (first bad_field) (walk_end v.walk h) in
         let l : length s ≤ length s = omega arith in
         sym (rw (e, walk-stop v.walk h, le-ltb (length s) (length s) l))
 
 -- ---- what was found
 
-module _ (s : List ℕ) {r : Found} (e : r ≡ found_of (first_fault s)) where
-  pub found-fault : {at : ℕ} → r ≡ At at → first_fault s ≡ some at
+module _ (s : List ℕ) {r : Found} (e : r ≡ (first_fault s)) where
+  pub found-fault : {at : ℕ} → r ≡ At at → first_fault s ≡ Some at
   found-fault {at} h = arm (first_fault s) (sym e ∙ h)
     where
-      arm : (o : Option ℕ) → found_of o ≡ At at → o ≡ some at
-      arm none q = let z : ◌≡◌ {A = ℕ} 0 1 = cc in absurd (omega arith)
-      arm (some x) q = let g : x ≡ at = cc in rw g
+      arm : (o : Option ℕ) → o ≡ At at → o ≡ Some at
+      arm None q = let z : ◌≡◌ {A = ℕ} 0 1 = cc in absurd (omega arith)
+      arm (Some x) q = let g : x ≡ at = cc in rw g
 
-  found_none : r ≡ Nothing → first_fault s ≡ none
+  found_none : r ≡ Nothing → first_fault s ≡ None
   found_none h = arm (first_fault s) (sym e ∙ h)
     where
-      arm : (o : Option ℕ) → found_of o ≡ Nothing → o ≡ none
-      arm none q = refl
-      arm (some x) q = let z : ◌≡◌ {A = ℕ} 0 1 = cc in absurd (omega arith)
+      arm : (o : Option ℕ) → o ≡ Nothing → o ≡ None
+      arm None q = refl
+      arm (Some x) q = let z : ◌≡◌ {A = ℕ} 0 1 = cc in absurd (omega arith)
 
   pub found-clean : r ≡ Nothing → Clean s
   unfolding first_fault
   found-clean h = arm (first bad_field (fields s)) (ltb (stop s) (length s)) refl refl (found_none h)
     where
-      arm : (o : Option ℕ) (b : Bool) → first bad_field (fields s) ≡ o → ltb (stop s) (length s) ≡ b → or_else o (cond b (some (stop s)) none) ≡ none → Clean s
-      arm none false p q m = record { ends = stops s q; good = p }
-      arm none true p q m = let z : ◌≡◌ {A = ℕ} 0 1 = cc in absurd (omega arith)
-      arm (some x) b p q m = let z : ◌≡◌ {A = ℕ} 0 1 = cc in absurd (omega arith)
+      arm : (o : Option ℕ) (b : Bool) → first bad_field (fields s) ≡ o → ltb (stop s) (length s) ≡ b → or_else o (cond b (Some (stop s)) None) ≡ None → Clean s
+      arm None false p q m = record { ends = stops s q; good = p }
+      arm None true p q m = let z : ◌≡◌ {A = ℕ} 0 1 = cc in absurd (omega arith)
+      arm (Some x) b p q m = let z : ◌≡◌ {A = ℕ} 0 1 = cc in absurd (omega arith)
 
-pub clean-none : {s : List ℕ} → Clean s → first_fault s ≡ none
+pub clean-none : {s : List ℕ} → Clean s → first_fault s ≡ None
 unfolding first_fault
 clean-none {s} v = let l : length s ≤ length s = omega arith in rw (v.good, v.ends, le-ltb (length s) (length s) l)

@@ -5,7 +5,7 @@ use native.Mathlib.Omega.{arith}
 use mathlib.Core.Path.{◌≡◌, refl, sym, ap, ◌∙◌}
 use mathlib.Core.Bool.{false, not}
 use mathlib.Core.List.{List, [], ◌∷◌}
-use mathlib.Core.Option.{none}
+use Rattle.std.specs.Prelude.{None}
 use lib.Dec.{eqb, leb}
 use lib.ListN.{length, get_or, drop, length-map}
 use lib.Seq.{drop-drop, get_or-drop}
@@ -31,7 +31,7 @@ good-few : (f : Field) → bad_field f ≡ false → f.ord < most_images
 unfolding bad_field
 good-few f h = leb-false most_images f.ord (or_parts (not (eqb f.tag image_tag)) (leb most_images f.ord) h).1
 
-good-first : (f : Field) (l : List Field) → first bad_field (f ∷ l) ≡ none → bad_field f ≡ false
+good-first : (f : Field) (l : List Field) → first bad_field (f ∷ l) ≡ None → bad_field f ≡ false
 good-first f l h = arm (none_of bad_field (f ∷ l) h)
   where
     arm : None bad_field (f ∷ l) → bad_field f ≡ false
@@ -74,7 +74,7 @@ module _ {s : List ℕ} {f : Field} {i : ℕ} {rest : List Field} (v : Passing s
   pub passing_step : {g : Field} → f.at < length s → g ≡ after s f → Passed s f g i rest
   passing_step {g} h e =
       let k = step h e in
-      let good : first bad_field k.later ≡ none = sym (first-later bad_field f k.later (fine h)) ∙ ap (first bad_field) (sym k.is) ∙ v.good in
+      let good : first bad_field k.later ≡ None = sym (first-later bad_field f k.later (fine h)) ∙ ap (first bad_field) (sym k.is) ∙ v.good in
       let n : length rest ≡ length k.later + 1 = ap length k.is ∙ (omega arith) in
       let o = v.ord h in
       let few = passing-few h in

@@ -1,6 +1,6 @@
 -- A batch in which no field is at fault, and a pass over its images.
 use Rattle.std.specs.Prelude.{ℕ, ◌+◌, ◌<◌, ◌≤◌, ◌≡◌, List, length, drop}
-use Rattle.std.proofs.Math.Option.{none}
+use Rattle.std.specs.Prelude.{None}
 use Rattle.oce_model.specs.Image.{fields, stop, first}
 use Rattle.oce_model.specs.declared.Field.{Field}
 use Rattle.image_framing.specs.Walk.{Walking}
@@ -9,13 +9,13 @@ use Rattle.batch.specs.Fields.{most_images, bad_field}
 -- its fields end with it, and none is bad
 pub record Clean (s : List ℕ) : Type 0 where
   pub ends : stop s ≡ length s
-  pub good : first bad_field (fields s) ≡ none
+  pub good : first bad_field (fields s) ≡ None
 
 -- a loop over the images has come to the field f, with i images before it and rest from it on
 pub record Passing (s : List ℕ) (f : Field) (i : ℕ) (rest : List Field) : Type 0 where
   pub walk : Walking s f rest
   pub ends : stop s ≡ length s
-  pub good : first bad_field rest ≡ none
+  pub good : first bad_field rest ≡ None
   pub here : rest ≡ drop i (fields s)
   pub all : i + length rest ≡ length (fields s)
   pub ord : f.at < length s → f.ord ≡ i

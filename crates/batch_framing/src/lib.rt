@@ -2,7 +2,6 @@
 #![tactic(auto)]
 
 ghost use Rattle.std.specs.Prelude.{◌≡◌, ◌≤◌, length};
-ghost use Rattle.image_framing.specs.Walk.{found_of};
 ghost use Rattle.batch.specs.Fields.{bad_field, first_fault, image_in};
 
 use base::part_of;
@@ -22,7 +21,7 @@ fn bad_field(f: Field) -> bool
 
 // Goes through the fields once, for refusal 11: the first field that is cut short or bad.
 pub fn find_fault(batch: &[u8]) -> Found
-    ensures { result ≡ found_of (first_fault batch.now) }
+    ensures { result ≡ (first_fault batch.now) }
 {
     let mut f = first_field(batch);
     while f.at < batch.len() {

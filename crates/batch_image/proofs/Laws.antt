@@ -3,7 +3,7 @@ use Prim.Native.Nat.{ℕ, ◌+◌, ◌-◌, ◌*◌, ◌≤◌, ◌<◌}
 use native.Mathlib.Omega.{arith}
 use mathlib.Core.Path.{◌≡◌, refl, sym, ap, ◌∙◌}
 use mathlib.Core.List.{List, [], ◌∷◌, ◌++◌, append-nil}
-use mathlib.Core.Option.{Option, none, some}
+use Rattle.std.specs.Prelude.{Option, Some, None}
 use lib.ListN.{length}
 use borrow.Rule.Slice.PartMut.{put_mid, mid_of}
 use Rattle.base.specs.Buffers.{patch, starts_with}
@@ -42,24 +42,24 @@ abbrev refused_as : ℕ → ℕ → Summary
 refused_as n at = record { refusal = n; at = at; errors = 0; warnings = 0 }
 
 away : (s : List ℕ) (n at : ℕ) (o : Option Refusal) → accepts s o ≡ accepting.Refused n at → refused_as n at ≡ summary_by s o
-away s n at none h = let z : ◌≡◌ {A = ℕ} 0 1 = cc in absurd (omega arith)
-away s n at (some r) h =
+away s n at None h = let z : ◌≡◌ {A = ℕ} 0 1 = cc in absurd (omega arith)
+away s n at (Some r) h =
     let p : r.number ≡ n = cc in
     let q : r.offset ≡ at = cc in
     rw (p, q)
 
 no-report : (s : List ℕ) (n at : ℕ) (o : Option Refusal) → accepts s o ≡ accepting.Refused n at → report_by s o ≡ []
-no-report s n at none h = let z : ◌≡◌ {A = ℕ} 0 1 = cc in absurd (omega arith)
-no-report s n at (some r) h = refl
+no-report s n at None h = let z : ◌≡◌ {A = ℕ} 0 1 = cc in absurd (omega arith)
+no-report s n at (Some r) h = refl
 
 -- turned away: the report stays as it is
 pub summed-refused : {s : List ℕ} (b : List ℕ) {a : Acceptance} {n at : ℕ} → a ≡ acceptance s → a ≡ accepting.Refused n at → Summed s b b (record { refusal = n; at = at; errors = 0; warnings = 0 })
 unfolding summary_of image_report acceptance
 summed-refused {s} b {n = n} {at} e h =
-    let none : report_by s (refusal s) ≡ [] = no-report s n at (refusal s) (sym e ∙ h) in
+    let None : report_by s (refusal s) ≡ [] = no-report s n at (refusal s) (sym e ∙ h) in
     record {
       summarized = record { is = away s n at (refusal s) (sym e ∙ h); few = omega arith };
-      bytes = λ l. sym (ap (λ x. starts_with x b) none ∙ starts_with-none b);
+      bytes = λ l. sym (ap (λ x. starts_with x b) None ∙ starts_with-none b);
     }
 
 -- counted, and written if it fits

@@ -1,6 +1,6 @@
 -- What is summed up for one image, and the bytes of its part of the output.
 use Rattle.std.specs.Prelude.{ℕ, ◌+◌, ◌*◌, ◌≤◌, ◌≡◌, List, length}
-use Rattle.std.proofs.Math.Option.{none}
+use Rattle.std.specs.Prelude.{None}
 use Rattle.base.specs.Buffers.{patch, starts_with}
 use Rattle.oce_model.specs.Refusals.{refusal}
 use Rattle.oce_diag.specs.Diagnostics.{errors, warnings}
@@ -14,7 +14,7 @@ use Rattle.batch.specs.declared.Summary.{Summary}
 
 -- a run over an accepted image: its diagnostics counted, and a report b that has become b', all of them if they fit
 pub record Counting (s b b' : List ℕ) (c : Counted) : Type 0 where
-  pub accepted : refusal s ≡ none
+  pub accepted : refusal s ≡ None
   pub errors : c.errors ≡ errors (report_of s)
   pub warnings : c.warnings ≡ warnings (report_of s)
   pub few : total c ≤ most_diagnostics

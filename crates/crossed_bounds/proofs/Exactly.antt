@@ -6,7 +6,7 @@ use mathlib.Core.Path.{◌≡◌, refl, ap}
 use mathlib.Core.Logic.{◌⊎◌}
 use mathlib.Core.Bool.{Bool, true, false, cond, ◌&&◌}
 use mathlib.Core.List.{List, [], ◌∷◌, map}
-use mathlib.Core.Option.{Option, none, some}
+use Rattle.std.specs.Prelude.{Option, Some, None}
 use lib.Dec.{eqb, ltb}
 use lib.IntN.{ℤ, pos, negsuc}
 use lib.ListN.{length}
@@ -49,8 +49,8 @@ pub record Exactly (m : Model) (g : Group) : Type 0 where
 
 end-good : (o : Option ℕ) → finite_end o ≡ true → good_end (real_end o) ≡ true
 unfolding finite_end real_end good_end of_kind real64
-end-good none h = refl
-end-good (some b) h = both (finite (of_bits binary64 b)) (fits binary64 (of_bits binary64 b)) h (is_true (fits binary64 (of_bits binary64 b)) (of_bits-fits binary64 b))
+end-good None h = refl
+end-good (Some b) h = both (finite (of_bits binary64 b)) (fits binary64 (of_bits binary64 b)) h (is_true (fits binary64 (of_bits binary64 b)) (of_bits-fits binary64 b))
 
 pub signed64-fits64 : (b : ℕ) → fits64 (signed64 b) ≡ true
 unfolding signed64
@@ -61,8 +61,8 @@ signed64-fits64 b = arm (dec_lt b (2 ^ 63))
     arm (no l) = rw (le-ltb b (2 ^ 63) (omega arith)) (lt-ltb (2 ^ 64 - suc b) (2 ^ 63) (omega arith))
 
 default-good : (o : Option ℕ) (d : ℤ) → fits64 d ≡ true → fits64 (or_default o d) ≡ true
-default-good none d h = h
-default-good (some b) d h = signed64-fits64 b
+default-good None d h = h
+default-good (Some b) d h = signed64-fits64 b
 
 real-good : (lo hi : Option ℕ) → good (real_range lo hi) ≡ true
 unfolding real_range good good_bounds

@@ -1,6 +1,6 @@
 -- The range of an attribute set, and when it is crossed. FORMAT 13; the Rust's `Bounds`.
 use Rattle.std.specs.Prelude.{ℕ, Bool, true, false, cond, ◌&&◌, List, [], ◌∷◌, eqb, ℤ}
-use Rattle.std.proofs.Math.Option.{Option, none, some}
+use Rattle.std.specs.Prelude.{Option, Some, None}
 use Rattle.std.specs.Int.Signed.{lt_z}
 use Rattle.std.specs.Float.Ieee.{lt}
 use Rattle.std.specs.Float.Ieee.Scale.{finite}
@@ -20,13 +20,13 @@ use Rattle.crossed_bounds.specs.declared.Range.TheVariants.{Absent, Within}
 
 -- a Real end is unset or finite
 unfoldable pub finite_end : Option ℕ → Bool
-finite_end none = true
-finite_end (some b) = finite (real64 b)
+finite_end None = true
+finite_end (Some b) = finite (real64 b)
 
 -- an end of a Real range
 unfoldable pub real_end : Option ℕ → End
-real_end none = None
-real_end (some b) = Value (real64 b)
+real_end None = None
+real_end (Some b) = Value (real64 b)
 
 -- a Real range, from what is declared for min and max: with an end that isn't finite there is none
 unfoldable pub real_range : Option ℕ → Option ℕ → Range
@@ -34,8 +34,8 @@ real_range lo hi = cond (finite_end lo && finite_end hi) (Within (Real (real_end
 
 -- an end of an Integer range, or else its default: `IntAttrs::min` and `max`
 abbrev pub or_default : Option ℕ → ℤ → ℤ
-or_default none d = d
-or_default (some b) d = signed64 b
+or_default None d = d
+or_default (Some b) d = signed64 b
 
 -- an Integer range; an end that isn't set is the head's default
 unfoldable pub integer_range : Defaults → Option ℕ → Option ℕ → Range

@@ -4,7 +4,7 @@ use native.Mathlib.Omega.{arith}
 use mathlib.Core.Path.{◌≡◌, refl}
 use mathlib.Core.Bool.{Bool, true, false, cond}
 use mathlib.Core.List.{List}
-use mathlib.Core.Option.{Option, none, some}
+use Rattle.std.specs.Prelude.{Option, Some, None}
 use lib.Dec.{eqb}
 use Rattle.numbers.specs.Bytes.{byte_range}
 use Rattle.numbers.proofs.Bits.{mark-fits}
@@ -34,8 +34,8 @@ put-lead d v a ok c = arm (eqb a.kind (kind_of d)) (declared_at a (bit_of d)) re
   where
     arm : (b : Bool) (o : Option ℕ) → declared_at a (bit_of d) ≡ o → Lead (cond b (put_at (bit_of d) v a o) a)
     arm false o e = c
-    arm true (some u) e = c
-    arm true none e = record { kind = c.kind; marks = mark-fits 8 a.marks (bit_of d) c.marks (omega (arith, bit_of-lt d)) (unmarked a (bit_of d) e) }
+    arm true (Some u) e = c
+    arm true None e = record { kind = c.kind; marks = mark-fits 8 a.marks (bit_of d) c.marks (omega (arith, bit_of-lt d)) (unmarked a (bit_of d) e) }
 
 at-lead : (s : List ℕ) (at : ℕ) → Bytes s → Lead (attrs_at s at)
 unfolding attrs_at

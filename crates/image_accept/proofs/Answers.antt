@@ -5,7 +5,8 @@ use native.Mathlib.Omega.{arith}
 use mathlib.Core.Path.{◌≡◌, refl, sym, ap, ◌∙◌}
 use mathlib.Core.Bool.{Bool, true, false, cond, ◌||◌}
 use mathlib.Core.List.{List, Memᴰ}
-use mathlib.Core.Option.{Option, none, some, some-ne-none}
+use Rattle.std.specs.Prelude.{Option}
+use Rattle.base.proofs.Options.{some-ne-none}
 use lib.Dec.{ltb}
 use lib.ListN.{length, drop}
 use lib.Seq.{drop-append_seam}
@@ -23,7 +24,7 @@ use Rattle.oce_model.specs.declared.Field.{Field}
 use Rattle.oce_model.proofs.Accepted.{stops}
 use Rattle.oce_model.proofs.Fields.{first-none, none-mem, none_of}
 use Rattle.oce_model.proofs.Places.{Chain, end, and, end_at, chain}
-use Rattle.image_framing.specs.Walk.{Ended, found_of, framed}
+use Rattle.image_framing.specs.Walk.{Ended, framed}
 use Rattle.image_framing.proofs.Finds.{found_none, found_some}
 use Rattle.image_accept.specs.Layout.{Laid, TabledIfAccepted, Tabled, acceptance, accepts, layout_of, offsets_of}
 use Rattle.image_sieve.specs.Faulty.{at_fault}
@@ -39,19 +40,19 @@ use Rattle.image_accept.specs.declared.Verdict.TheVariants.{Away, Fine}
 -- ---- what is found
 
 -- a field that is found lies before the end
-found_in : (p : Field → Bool) (e at : ℕ) (l : List Field) → Chain e at l → (x : ℕ) → first p l ≡ some x → x < e
+found_in : (p : Field → Bool) (e at : ℕ) (l : List Field) → Chain e at l → (x : ℕ) → first p l ≡ Some x → x < e
 unfolding first
 found_in p e at l (end) x h = let z : ◌≡◌ {A = ℕ} 0 1 = cc in absurd (omega arith)
 found_in p e at l (and {f = f} {l = r} a b c) x h = arm (p f) h (found_in p e (end_at f) r c x)
   where
-    arm : (t : Bool) → cond t (some f.at) (first p r) ≡ some x → (first p r ≡ some x → x < e) → x < e
+    arm : (t : Bool) → cond t (Some f.at) (first p r) ≡ Some x → (first p r ≡ Some x → x < e) → x < e
     arm true h ih = let q : f.at ≡ x = cc in omega arith
     arm false h ih = ih h
 
 small : {at : ℕ} → at ≤ longest_image → Fits w32 at
 small h = record { fits = omega arith }
 
-pub found-small : (p : Field → Bool) {s : List ℕ} {at : ℕ} {found : code.Option ℕ} → Ended s → found ≡ found_of (first p (fields s)) → found ≡ Some at → Fits w32 at
+pub found-small : (p : Field → Bool) {s : List ℕ} {at : ℕ} {found : code.Option ℕ} → Ended s → found ≡ (first p (fields s)) → found ≡ Some at → Fits w32 at
 found-small p {s} {at} w e h =
     small (omega (arith, w.short, found_in p (length s) 0 (fields s) (chain s) at (found_some (first p (fields s)) at (sym h ∙ e))))
 
@@ -77,19 +78,19 @@ module _ {s : List ℕ} {k : ℕ} (v : Refusing s k) where
       let j : 9 - k ≡ suc (9 - (k + 1)) = omega arith in
       v.same ∙ rw j (one-step (9 - (k + 1)) k s n o e g)
 
-  pub refusing-turn : {n : ℕ} {found : code.Option ℕ} → k < 9 → n ≡ length (of_tag text_tag (fields s)) → found ≡ found_of (first (fault k n s) (fields s)) → found ≡ None → Refusing s (k + 1)
-  refusing-turn {n} h e f g = record { within = omega arith; same = step none h e (found_none (first (fault k n s) (fields s)) (sym g ∙ f)) }
+  pub refusing-turn : {n : ℕ} {found : code.Option ℕ} → k < 9 → n ≡ length (of_tag text_tag (fields s)) → found ≡ (first (fault k n s) (fields s)) → found ≡ None → Refusing s (k + 1)
+  refusing-turn {n} h e f g = record { within = omega arith; same = step None h e (found_none (first (fault k n s) (fields s)) (sym g ∙ f)) }
 
-  pub refusing-found : {n at : ℕ} {found : code.Option ℕ} → k < 9 → n ≡ length (of_tag text_tag (fields s)) → found ≡ found_of (first (fault k n s) (fields s)) → found ≡ Some at
+  pub refusing-found : {n at : ℕ} {found : code.Option ℕ} → k < 9 → n ≡ length (of_tag text_tag (fields s)) → found ≡ (first (fault k n s) (fields s)) → found ≡ Some at
       → Away k at ≡ verdict_of (refusals_from 5 4 s (fields s))
-  refusing-found {n} {at} h e f g = sym (ap verdict_of (step (some at) h e (found_some (first (fault k n s) (fields s)) at (sym g ∙ f))))
+  refusing-found {n} {at} h e f g = sym (ap verdict_of (step (Some at) h e (found_some (first (fault k n s) (fields s)) at (sym g ∙ f))))
 
   pub refusing-end : 9 ≤ k → Fine ≡ verdict_of (refusals_from 5 4 s (fields s))
   unfolding refusals_from
   refusing-end h =
       let w = v.within in
       let j : 9 - k ≡ 0 = omega arith in
-      let q : refusals_from (9 - k) k s (fields s) ≡ none = rw j in
+      let q : refusals_from (9 - k) k s (fields s) ≡ None = rw j in
       sym (ap verdict_of (v.same ∙ q))
 
 -- ---- refusals 1 to 3
@@ -103,7 +104,7 @@ later s o g l h q = rw (le-ltb (length s) shortest_image g, le-ltb longest_image
 tagged-framing : {s : List ℕ} → shortest_image ≤ length s → Tagged s → WellFramed s
 tagged-framing {s} g v =
     let e : length s ≤ stop s = omega (arith, v.ended.ends) in
-    record { tagged = v; same = later s none g v.ended.short (le-ltb (stop s) (length s) e) v.tags }
+    record { tagged = v; same = later s None g v.ended.short (le-ltb (stop s) (length s) e) v.tags }
 
 module _ (s : List ℕ) where
   pub too_short : length s < shortest_image → Away 1 0 ≡ verdict_of (refusal s)
@@ -119,15 +120,15 @@ module _ (s : List ℕ) where
     unfolding framed
     cut_at {at} h = arm (ltb (stop s) (length s)) (sym h ∙ e)
       where
-        arm : (b : Bool) → Err at ≡ cond b (Err (stop s)) (Ok (found_of (first bad_tag (fields s)))) → (b ≡ true) × (stop s ≡ at)
+        arm : (b : Bool) → Err at ≡ cond b (Err (stop s)) (Ok ((first bad_tag (fields s)))) → (b ≡ true) × (stop s ≡ at)
         arm true q = (refl, cc)
         arm false q = let z : ◌≡◌ {A = ℕ} 0 1 = cc in absurd (omega arith)
 
-    whole-bad : {bad : code.Option ℕ} → r ≡ Ok bad → (ltb (stop s) (length s) ≡ false) × (bad ≡ found_of (first bad_tag (fields s)))
+    whole-bad : {bad : code.Option ℕ} → r ≡ Ok bad → (ltb (stop s) (length s) ≡ false) × (bad ≡ (first bad_tag (fields s)))
     unfolding framed
     whole-bad {bad} h = arm (ltb (stop s) (length s)) (sym h ∙ e)
       where
-        arm : (b : Bool) → Ok bad ≡ cond b (Err (stop s)) (Ok (found_of (first bad_tag (fields s)))) → (b ≡ false) × (bad ≡ found_of (first bad_tag (fields s)))
+        arm : (b : Bool) → Ok bad ≡ cond b (Err (stop s)) (Ok ((first bad_tag (fields s)))) → (b ≡ false) × (bad ≡ (first bad_tag (fields s)))
         arm true q = let z : ◌≡◌ {A = ℕ} 0 1 = cc in absurd (omega arith)
         arm false q = (refl, cc)
 
@@ -148,14 +149,14 @@ module _ (s : List ℕ) where
           sym (rw (le-ltb (length s) shortest_image g, le-ltb longest_image (length s) l, p.0, p.1))
 
       pub refused-bad : {at : ℕ} {bad : code.Option ℕ} → r ≡ Ok bad → bad ≡ Some at → Away 3 at ≡ verdict_of (refusal s)
-      refused-bad {at} h b = sym (ap verdict_of (later s (some at) g l (whole-bad h).0 (found_some (first bad_tag (fields s)) at (sym b ∙ (whole-bad h).1))))
+      refused-bad {at} h b = sym (ap verdict_of (later s (Some at) g l (whole-bad h).0 (found_some (first bad_tag (fields s)) at (sym b ∙ (whole-bad h).1))))
 
       pub whole-framing : {bad : code.Option ℕ} → r ≡ Ok bad → bad ≡ None → WellFramed s
       whole-framing h b = tagged-framing g (whole-tagged h b l)
 
 -- ---- no field at fault
 
-module _ (s : List ℕ) (h : first (faulty s) (fields s) ≡ none) where
+module _ (s : List ℕ) (h : first (faulty s) (fields s) ≡ None) where
   n : ℕ
   n = length (of_tag text_tag (fields s))
 
@@ -177,32 +178,32 @@ module _ (s : List ℕ) (h : first (faulty s) (fields s) ≡ none) where
       let d = or_parts (bad_length s f) (too_many f) c.0 in
       record { lengths = d.0; counts = d.1; contents = c.1; texts = b.1; numbers = a.1 }
 
-  pub clean-fields : refusals_from 5 4 s (fields s) ≡ none
+  pub clean-fields : refusals_from 5 4 s (fields s) ≡ None
   unfolding fault refusals_from n
   clean-fields =
-      one-step 4 4 s n none refl (first-none (fault 4 n s) (fields s) (λ f m. (fine-field f m).lengths))
-      ∙ one-step 3 5 s n none refl (first-none (fault 5 n s) (fields s) (λ f m. (fine-field f m).counts))
-      ∙ one-step 2 6 s n none refl (first-none (fault 6 n s) (fields s) (λ f m. (fine-field f m).contents))
-      ∙ one-step 1 7 s n none refl (first-none (fault 7 n s) (fields s) (λ f m. (fine-field f m).texts))
-      ∙ one-step 0 8 s n none refl (first-none (fault 8 n s) (fields s) (λ f m. (fine-field f m).numbers))
+      one-step 4 4 s n None refl (first-none (fault 4 n s) (fields s) (λ f m. (fine-field f m).lengths))
+      ∙ one-step 3 5 s n None refl (first-none (fault 5 n s) (fields s) (λ f m. (fine-field f m).counts))
+      ∙ one-step 2 6 s n None refl (first-none (fault 6 n s) (fields s) (λ f m. (fine-field f m).contents))
+      ∙ one-step 1 7 s n None refl (first-none (fault 7 n s) (fields s) (λ f m. (fine-field f m).texts))
+      ∙ one-step 0 8 s n None refl (first-none (fault 8 n s) (fields s) (λ f m. (fine-field f m).numbers))
 
 -- ---- the answer
 
-verdict-none : (o : Option Refusal) → Fine ≡ verdict_of o → o ≡ none
-verdict-none none h = refl
-verdict-none (some r) h = let z : ◌≡◌ {A = ℕ} 0 1 = cc in absurd (omega arith)
+verdict-none : (o : Option Refusal) → Fine ≡ verdict_of o → o ≡ None
+verdict-none None h = refl
+verdict-none (Some r) h = let z : ◌≡◌ {A = ℕ} 0 1 = cc in absurd (omega arith)
 
 verdict-some : (s : List ℕ) (o : Option Refusal) (n at : ℕ) → Away n at ≡ verdict_of o → accepts s o ≡ Refused n at
-verdict-some s none n at h = let z : ◌≡◌ {A = ℕ} 0 1 = cc in absurd (omega arith)
-verdict-some s (some r) n at h =
+verdict-some s None n at h = let z : ◌≡◌ {A = ℕ} 0 1 = cc in absurd (omega arith)
+verdict-some s (Some r) n at h =
     let p : r.number ≡ n = cc in
     let q : r.offset ≡ at = cc in
     rw (p, q)
 
 -- a refused image has no table
-some-not : (s : List ℕ) (o : Option Refusal) (n at : ℕ) → Away n at ≡ verdict_of o → o ≡ none → ⊥
-some-not s none n at h e = let z : ◌≡◌ {A = ℕ} 0 1 = cc in omega arith
-some-not s (some r) n at h e = some-ne-none r e
+some-not : (s : List ℕ) (o : Option Refusal) (n at : ℕ) → Away n at ≡ verdict_of o → o ≡ None → ⊥
+some-not s None n at h e = let z : ◌≡◌ {A = ℕ} 0 1 = cc in omega arith
+some-not s (Some r) n at h e = some-ne-none r e
 
 module _ (s : List ℕ) {n at : ℕ} (e : Away n at ≡ verdict_of (refusal s)) where
   pub answer-refused : Refused n at ≡ acceptance s
@@ -212,7 +213,7 @@ module _ (s : List ℕ) {n at : ℕ} (e : Away n at ≡ verdict_of (refusal s)) 
   pub table-refused : (t : ℕ) (table : List ℕ) → TabledIfAccepted t s table
   table-refused t table = record { listed = λ h. absurd (some-not s (refusal s) n at e h) }
 
-module _ (s : List ℕ) (e : refusal s ≡ none) where
+module _ (s : List ℕ) (e : refusal s ≡ None) where
   pub answer-accepted : {l : Layout} → l ≡ layout_of s → Accepted l ≡ acceptance s
   unfolding acceptance
   answer-accepted q = rw q (sym (ap (accepts s) e))
@@ -256,7 +257,7 @@ module _ {s : List ℕ} (v : WellFramed s) where
     pub fields-table : {n at : ℕ} (t : ℕ) (table : List ℕ) → r ≡ Away n at → TabledIfAccepted t s table
     fields-table t table h = table-refused s (away h) t table
 
-    pub fields-accepted : r ≡ Fine → refusal s ≡ none
+    pub fields-accepted : r ≡ Fine → refusal s ≡ None
     fields-accepted h = v.same ∙ verdict-none (refusals_from 5 4 s (fields s)) (sym h ∙ e)
 
 pub survey-table : {t : ℕ} {s : List ℕ} {r : Surveyed} {table : List ℕ} → Surveys s r → TabledIfFine t s r.fine table → r.fine ≡ true → TabledIfAccepted t s table
@@ -268,8 +269,8 @@ layout-table t s table w = record { listed = λ _. tabled-own t s table w }
 -- ---- what later readers are given
 
 laid_of : (s : List ℕ) (o : Option Refusal) (l : Layout) → refusal s ≡ o → Accepted l ≡ accepts s o → Laid s l
-laid_of s none l e h = record { accepted = e; layout = cc }
-laid_of s (some r) l e h = let z : ◌≡◌ {A = ℕ} 0 1 = cc in absurd (omega arith)
+laid_of s None l e h = record { accepted = e; layout = cc }
+laid_of s (Some r) l e h = let z : ◌≡◌ {A = ℕ} 0 1 = cc in absurd (omega arith)
 
 module _ {s : List ℕ} {a : Acceptance} {l : Layout} (e : a ≡ acceptance s) (h : a ≡ Accepted l) where
   pub accepted-laid : Laid s l

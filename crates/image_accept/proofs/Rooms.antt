@@ -6,7 +6,7 @@ use mathlib.Core.Logic.{◌≢◌}
 use mathlib.Core.Path.{◌≡◌, refl, sym, ap, ◌∙◌}
 use mathlib.Core.Bool.{Bool, true, false, cond}
 use mathlib.Core.List.{List, [], ◌∷◌}
-use mathlib.Core.Option.{none}
+use Rattle.std.specs.Prelude.{None}
 use lib.Dec.{leb}
 use lib.ListN.{length, length-map}
 use borrow.Author.Tests.{eq-eqb, leb-false}
@@ -23,10 +23,10 @@ use Rattle.image_accept.specs.Layout.{offsets_of}
 use Rattle.image_accept.specs.Sections.{Tagged}
 use Rattle.image_accept.proofs.Runs.{after-prev, ascends, none-head, past, tag-here, tag-not}
 
-none_first : (p : Field → Bool) (l : List Field) → None p l → first p l ≡ none
+none_first : (p : Field → Bool) (l : List Field) → None p l → first p l ≡ None
 none_first p l n = first-none p l (none-mem p l n)
 
-pub accepted-tagged : {s : List ℕ} → refusal s ≡ none → Tagged s
+pub accepted-tagged : {s : List ℕ} → refusal s ≡ None → Tagged s
 accepted-tagged {s} h =
     let a = accepted s h in
     record { ended = record { ends = a.ends; short = a.short }; tags = none_first bad_tag (fields s) a.tags }
@@ -38,7 +38,7 @@ after-ord s f e = rw (eq-eqb f.tag (after s f).tag (sym e))
 
 module _ (s : List ℕ) (t : ℕ) where
   -- behind the fields with the tag there are no more
-  behind : (k : ℕ) (f : Field) → t ≤ f.prev → f.tag ≢ t → first bad_tag (from k s f) ≡ none → of_tag t (from k s f) ≡ []
+  behind : (k : ℕ) (f : Field) → t ≤ f.prev → f.tag ≢ t → first bad_tag (from k s f) ≡ None → of_tag t (from k s f) ≡ []
   unfolding from of_tag keep
   behind zero f l n b = refl
   behind (suc k) f l n b = arm (leb (end_of f) (length s)) b
@@ -46,7 +46,7 @@ module _ (s : List ℕ) (t : ℕ) where
       rest : List Field
       rest = from k s (after s f)
 
-      arm : (b : Bool) → first bad_tag (cond b (f ∷ rest) []) ≡ none → of_tag t (cond b (f ∷ rest) []) ≡ []
+      arm : (b : Bool) → first bad_tag (cond b (f ∷ rest) []) ≡ None → of_tag t (cond b (f ∷ rest) []) ≡ []
       arm false b = refl
       arm true b =
           let p = none-head bad_tag f rest b in
@@ -55,7 +55,7 @@ module _ (s : List ℕ) (t : ℕ) where
           tag-not t f rest n ∙ past s t k (after s f) h p.1
 
   -- from a field with the tag on
-  run : (k : ℕ) (f : Field) → f.tag ≡ t → first bad_tag (from k s f) ≡ none → first too_many (from k s f) ≡ none → length (of_tag t (from k s f)) ≤ most t - f.ord
+  run : (k : ℕ) (f : Field) → f.tag ≡ t → first bad_tag (from k s f) ≡ None → first too_many (from k s f) ≡ None → length (of_tag t (from k s f)) ≤ most t - f.ord
   unfolding from of_tag keep too_many
   run zero f e b m = omega arith
   run (suc k) f e b m = arm (leb (end_of f) (length s)) b m (run k (after s f))
@@ -63,14 +63,14 @@ module _ (s : List ℕ) (t : ℕ) where
       rest : List Field
       rest = from k s (after s f)
 
-      side : f.ord < most t → first bad_tag rest ≡ none → Dec ((after s f).tag ≡ t) → ((after s f).tag ≡ t → length (of_tag t rest) ≤ most t - (after s f).ord) → length (f ∷ of_tag t rest) ≤ most t - f.ord
+      side : f.ord < most t → first bad_tag rest ≡ None → Dec ((after s f).tag ≡ t) → ((after s f).tag ≡ t → length (of_tag t rest) ≤ most t - (after s f).ord) → length (f ∷ of_tag t rest) ≤ most t - f.ord
       side o b (yes g) ih = omega (arith, ih g, after-ord s f (g ∙ sym e))
       side o b (no n) ih =
           let l : t ≤ (after s f).prev = rw (after-prev s f) (omega arith) in
           rw (behind k (after s f) l n b) (omega arith)
 
-      arm : (c : Bool) → first bad_tag (cond c (f ∷ rest) []) ≡ none → first too_many (cond c (f ∷ rest) []) ≡ none
-          → ((after s f).tag ≡ t → first bad_tag rest ≡ none → first too_many rest ≡ none → length (of_tag t rest) ≤ most t - (after s f).ord)
+      arm : (c : Bool) → first bad_tag (cond c (f ∷ rest) []) ≡ None → first too_many (cond c (f ∷ rest) []) ≡ None
+          → ((after s f).tag ≡ t → first bad_tag rest ≡ None → first too_many rest ≡ None → length (of_tag t rest) ≤ most t - (after s f).ord)
           → length (of_tag t (cond c (f ∷ rest) [])) ≤ most t - f.ord
       arm false b m ih = omega arith
       arm true b m ih =
@@ -79,7 +79,7 @@ module _ (s : List ℕ) (t : ℕ) where
           let o : f.ord < most t = rw e at (leb-false (most f.tag) f.ord q.0) in
           rw (tag-here t f rest e) (side o p.1 (ℕ_discrete (after s f).tag t) (λ g. ih g p.1 q.1))
 
-  counts : (k : ℕ) (f : Field) → first bad_tag (from k s f) ≡ none → first too_many (from k s f) ≡ none → length (of_tag t (from k s f)) ≤ most t
+  counts : (k : ℕ) (f : Field) → first bad_tag (from k s f) ≡ None → first too_many (from k s f) ≡ None → length (of_tag t (from k s f)) ≤ most t
   unfolding from of_tag keep
   counts zero f b m = omega arith
   counts (suc k) f b m = side (ℕ_discrete f.tag t) (counts k (after s f))
@@ -87,17 +87,17 @@ module _ (s : List ℕ) (t : ℕ) where
       rest : List Field
       rest = from k s (after s f)
 
-      arm : f.tag ≢ t → (c : Bool) → first bad_tag (cond c (f ∷ rest) []) ≡ none → first too_many (cond c (f ∷ rest) []) ≡ none
-          → (first bad_tag rest ≡ none → first too_many rest ≡ none → length (of_tag t rest) ≤ most t) → length (of_tag t (cond c (f ∷ rest) [])) ≤ most t
+      arm : f.tag ≢ t → (c : Bool) → first bad_tag (cond c (f ∷ rest) []) ≡ None → first too_many (cond c (f ∷ rest) []) ≡ None
+          → (first bad_tag rest ≡ None → first too_many rest ≡ None → length (of_tag t rest) ≤ most t) → length (of_tag t (cond c (f ∷ rest) [])) ≤ most t
       arm n false b m ih = omega arith
       arm n true b m ih = rw (tag-not t f rest n) (ih (none-head bad_tag f rest b).1 (none-head too_many f rest m).1)
 
-      side : Dec (f.tag ≡ t) → (first bad_tag rest ≡ none → first too_many rest ≡ none → length (of_tag t rest) ≤ most t) → length (of_tag t (from (suc k) s f)) ≤ most t
+      side : Dec (f.tag ≡ t) → (first bad_tag rest ≡ None → first too_many rest ≡ None → length (of_tag t rest) ≤ most t) → length (of_tag t (from (suc k) s f)) ≤ most t
       side (yes e) ih = omega (arith, run (suc k) f e b m)
       side (no n) ih = arm n (leb (end_of f) (length s)) b m ih
 
 -- the tables have room for the offsets of an accepted image
-pub accepted-room : (t : ℕ) (s : List ℕ) {n : ℕ} → refusal s ≡ none → most t ≤ n → length (offsets_of t s) ≤ n
+pub accepted-room : (t : ℕ) (s : List ℕ) {n : ℕ} → refusal s ≡ None → most t ≤ n → length (offsets_of t s) ≤ n
 unfolding offsets_of
 accepted-room t s h l =
     let a = accepted s h in

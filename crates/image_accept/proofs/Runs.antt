@@ -6,7 +6,8 @@ use mathlib.Core.Logic.{◌≢◌}
 use mathlib.Core.Path.{◌≡◌, refl, sym, ap, ◌∙◌}
 use mathlib.Core.Bool.{Bool, true, false, cond, ◌||◌}
 use mathlib.Core.List.{List, [], ◌∷◌, ◌++◌, map, append_assoc, append-nil}
-use mathlib.Core.Option.{none, some, some-ne-none}
+use Rattle.std.specs.Prelude.{Some, None}
+use Rattle.base.proofs.Options.{some-ne-none}
 use lib.Dec.{eqb, leb, ltb}
 use lib.ListN.{length, drop, set, length-append, length-map, length-set}
 use lib.Seq.{append_snoc, drop-cons, set-append_seam}
@@ -28,11 +29,11 @@ use Rattle.image_accept.specs.Sections.{Begins, PassedSection, Tagged, reaches}
 -- ---- tags that don't fall
 
 -- both parts of 'none of these'
-pub none-head : (p : Field → Bool) (f : Field) (l : List Field) → first p (f ∷ l) ≡ none → (p f ≡ false) × (first p l ≡ none)
+pub none-head : (p : Field → Bool) (f : Field) (l : List Field) → first p (f ∷ l) ≡ None → (p f ≡ false) × (first p l ≡ None)
 unfolding first
 none-head p f l h = arm (p f) h
   where
-    arm : (b : Bool) → cond b (some f.at) (first p l) ≡ none → (b ≡ false) × (first p l ≡ none)
+    arm : (b : Bool) → cond b (Some f.at) (first p l) ≡ None → (b ≡ false) × (first p l ≡ None)
     arm true h = absurd (some-ne-none f.at h)
     arm false h = (refl, h)
 
@@ -63,7 +64,7 @@ unfolding after placed field_at
 after-prev s f = refl
 
 -- after a higher tag there is none
-pub past : (s : List ℕ) (t k : ℕ) (f : Field) → t < f.prev → first bad_tag (from k s f) ≡ none → of_tag t (from k s f) ≡ []
+pub past : (s : List ℕ) (t k : ℕ) (f : Field) → t < f.prev → first bad_tag (from k s f) ≡ None → of_tag t (from k s f) ≡ []
 unfolding from of_tag keep
 past s t zero f l n = refl
 past s t (suc k) f l n = arm (leb (end_of f) (length s)) n (past s t k (after s f))
@@ -71,7 +72,7 @@ past s t (suc k) f l n = arm (leb (end_of f) (length s)) n (past s t k (after s 
     rest : List Field
     rest = from k s (after s f)
 
-    arm : (b : Bool) → first bad_tag (cond b (f ∷ rest) []) ≡ none → (t < (after s f).prev → first bad_tag rest ≡ none → of_tag t rest ≡ []) → of_tag t (cond b (f ∷ rest) []) ≡ []
+    arm : (b : Bool) → first bad_tag (cond b (f ∷ rest) []) ≡ None → (t < (after s f).prev → first bad_tag rest ≡ None → of_tag t rest ≡ []) → of_tag t (cond b (f ∷ rest) []) ≡ []
     arm false n ih = refl
     arm true n ih =
         let p = none-head bad_tag f rest n in
@@ -85,7 +86,7 @@ past s t (suc k) f l n = arm (leb (end_of f) (length s)) n (past s t k (after s 
 pub record StillLeft (s : List ℕ) (f : Field) (rest : List Field) : Type 0 where
   pub ended : Ended s
   pub walk : Walking s f rest
-  pub tags : first bad_tag rest ≡ none
+  pub tags : first bad_tag rest ≡ None
 
 pub record Next (s : List ℕ) (f g : Field) (rest : List Field) : Type 0 where
   pub later : List Field

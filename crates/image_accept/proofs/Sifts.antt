@@ -6,7 +6,7 @@ use mathlib.Core.Logic.{◌≢◌}
 use mathlib.Core.Path.{◌≡◌, refl, sym, ap, ◌∙◌}
 use mathlib.Core.Bool.{Bool, true, false, ◌&&◌, false≢true}
 use mathlib.Core.List.{List}
-use mathlib.Core.Option.{none}
+use Rattle.std.specs.Prelude.{None}
 use lib.Dec.{leb}
 use lib.IntN.{ℤ}
 use lib.ListN.{length, set, length-set}
@@ -42,7 +42,7 @@ seeks q = record { rest = q.rest; walk = q.walk; same = q.same }
 quiets : {s : List ℕ} {f : Field} → Seeking (faulty s) s f → NoFaultBefore s f
 quiets q = record { rest = q.rest; walk = q.walk; same = q.same }
 
-pub quiet-end : {s : List ℕ} {f : Field} → NoFaultBefore s f → length s ≤ f.at → first (faulty s) (fields s) ≡ none
+pub quiet-end : {s : List ℕ} {f : Field} → NoFaultBefore s f → length s ≤ f.at → first (faulty s) (fields s) ≡ None
 unfolding first
 quiet-end {s} q h = q.same ∙ ap (first (faulty s)) (walk_end q.walk h)
 

@@ -1,6 +1,6 @@
 -- The layout of an accepted image, and what `accept` answers: refusals 1 to 8. FORMAT 3 and 6.
 use Rattle.std.specs.Prelude.{ℕ, ◌≡◌, List, map, length}
-use Rattle.std.proofs.Math.Option.{Option, none, some}
+use Rattle.std.specs.Prelude.{Option, Some, None}
 use Rattle.base.specs.Buffers.{starts_with}
 use Rattle.oce_model.specs.Format.{text_tag, block_tag, connector_tag, connection_tag, external_input_tag, boundary_input_tag, boundary_output_tag}
 use Rattle.oce_model.specs.Image.{fields, of_tag, start_of}
@@ -36,8 +36,8 @@ offsets_of t s = map (λ (f : Field). f.at) (of_tag t (fields s))
 
 -- an answer: the refusal's number and offset, or the layout
 abbrev pub accepts : List ℕ → Option Refusal → Acceptance
-accepts s none = Accepted (layout_of s)
-accepts s (some r) = Refused r.number r.offset
+accepts s None = Accepted (layout_of s)
+accepts s (Some r) = Refused r.number r.offset
 
 -- what `accept` answers
 unfoldable pub acceptance : List ℕ → Acceptance
@@ -47,7 +47,7 @@ acceptance s = accepts s (refusal s)
 
 -- s is accepted, and l is its layout
 pub record Laid (s : List ℕ) (l : Layout) : Type 0 where
-  pub accepted : refusal s ≡ none
+  pub accepted : refusal s ≡ None
   pub layout : l ≡ layout_of s
 
 -- a table begins with the offsets of the fields with tag t
@@ -56,4 +56,4 @@ pub record Tabled (t : ℕ) (s table : List ℕ) : Type 0 where
 
 -- a table of offsets after `accept`; of a refused image nothing is said
 pub record TabledIfAccepted (t : ℕ) (s table : List ℕ) : Type 0 where
-  pub listed : refusal s ≡ none → Tabled t s table
+  pub listed : refusal s ≡ None → Tabled t s table

@@ -1,6 +1,6 @@
 -- The sections of an image whose tags don't fall: the fields of a tag stand side by side, each section where the one before ends.
 use Rattle.std.specs.Prelude.{ℕ, ◌+◌, ◌<◌, ◌≤◌, ◌≡◌, Bool, List, leb, length}
-use Rattle.std.proofs.Math.Option.{Option, none, some}
+use Rattle.std.specs.Prelude.{Option, Some, None}
 use Rattle.oce_model.specs.Format.{connector_tag, connection_tag, external_input_tag, boundary_input_tag, boundary_output_tag}
 use Rattle.oce_model.specs.Image.{fields, first, of_tag}
 use Rattle.oce_model.specs.Refusals.{Refusal, bad_tag}
@@ -15,7 +15,7 @@ use Rattle.image_accept.specs.declared.Verdict.TheVariants.{Away, Fine}
 -- an image whose fields end with it, with good tags
 pub record Tagged (s : List ℕ) : Type 0 where
   pub ended : Ended s
-  pub tags : first bad_tag (fields s) ≡ none
+  pub tags : first bad_tag (fields s) ≡ None
 
 -- a field has a tag from t on
 abbrev pub reaches : ℕ → Field → Bool
@@ -26,7 +26,7 @@ pub record Begins (t : ℕ) (s : List ℕ) (f : Field) : Type 0 where
   pub rest : List Field
   pub ended : Ended s
   pub walk : Walking s f rest
-  pub tags : first bad_tag rest ≡ none
+  pub tags : first bad_tag rest ≡ None
   pub low : f.at < length s → t ≤ f.tag
   pub same : (u : ℕ) → t ≤ u → of_tag u rest ≡ of_tag u (fields s)
   pub starts : (u : ℕ) → t ≤ u → first (reaches u) rest ≡ first (reaches u) (fields s)
@@ -48,5 +48,5 @@ fixed_of s = record {
 
 -- a refusal, or none
 abbrev pub verdict_of : Option Refusal → Verdict
-verdict_of none = Fine
-verdict_of (some r) = Away r.number r.offset
+verdict_of None = Fine
+verdict_of (Some r) = Away r.number r.offset

@@ -1,7 +1,7 @@
 -- Passing the sections of an image once, as long as nothing is at fault under refusals 2 to 8. That the fields end with the image and have good
 -- tags is known only once all are passed: what is found on the way holds if they do (Tagged).
 use Rattle.std.specs.Prelude.{ℕ, ◌+◌, ◌<◌, ◌≤◌, ◌≡◌, Bool, true, List, length}
-use Rattle.std.proofs.Math.Option.{none}
+use Rattle.std.specs.Prelude.{None}
 use Rattle.numbers.specs.Bytes.{short_range}
 use Rattle.oce_model.specs.Format.{head_tag, text_tag, longest_image}
 use Rattle.oce_model.specs.Image.{fields, first, of_tag}
@@ -92,13 +92,13 @@ pub record Fixes (s : List ℕ) (b : Sifted) (r : Rest) : Type 0 where
   pub earlier : r.fine ≡ true → b.fine ≡ true
   pub tagged : r.fine ≡ true → Tagged s
   pub fixed : r.fine ≡ true → r.fixed ≡ fixed_of s
-  pub clean : r.fine ≡ true → first (faulty s) (fields s) ≡ none
+  pub clean : r.fine ≡ true → first (faulty s) (fields s) ≡ None
 
 -- all sections are passed: if nothing is at fault, the fields are tagged, the layout is the image's, and none is at fault
 pub record Surveys (s : List ℕ) (r : Surveyed) : Type 0 where
   pub tagged : r.fine ≡ true → Tagged s
   pub layout : r.fine ≡ true → r.layout ≡ layout_of s
-  pub clean : r.fine ≡ true → first (faulty s) (fields s) ≡ none
+  pub clean : r.fine ≡ true → first (faulty s) (fields s) ≡ None
 
 -- refusals 1 to 3 don't apply
 pub record WellFramed (s : List ℕ) : Type 0 where

@@ -2,7 +2,7 @@
 #![tactic(auto)]
 
 ghost use Rattle.std.specs.Prelude.{◌≡◌, ◌+◌, ◌<◌, ◌≤◌, length};
-ghost use Rattle.std.proofs.Math.Option.{none};
+ghost use Rattle.std.specs.Prelude.{None};
 ghost use Rattle.base.specs.Buffers.{starts_with};
 ghost use Rattle.oce_model.specs.Format.{head_tag, text_tag, block_tag, connector_tag, highest_tag, most, shortest_image, longest_image};
 ghost use Rattle.oce_model.specs.Image.{fields, of_tag};
@@ -188,7 +188,7 @@ fn refuse_fields(s: &[u8]) -> Verdict
 
 // The layout of an accepted image; the tables get the offsets of its texts and blocks.
 fn lay_out(s: &[u8], texts: &mut [usize], blocks: &mut [usize]) -> Layout
-    requires accepted { refusal s.now ≡ none }
+    requires accepted { refusal s.now ≡ None }
     requires text_room { most text_tag ≤ length texts.old }
     requires block_room { most block_tag ≤ length blocks.old }
     ensures layout { result ≡ layout_of s.now }

@@ -5,7 +5,6 @@ use mathlib.Core.Path.{◌≡◌, refl, sym, ap, ◌∙◌}
 use mathlib.Core.Bool.{Bool, true, false, cond}
 use mathlib.Core.List.{List, [], ◌∷◌, Memᴰ}
 use mathlib.Core.Option as maybe
-use mathlib.Core.Option.{none, some}
 use lib.Dec.{leb}
 use lib.ListN.{length}
 use borrow.Author.Tests.{lt-ltb, le-ltb}
@@ -18,7 +17,7 @@ use Rattle.oce_model.specs.Refusals.{bad_tag}
 use Rattle.oce_model.specs.declared.Field.{Field}
 use Rattle.oce_model.proofs.Fields.{first-here, first-later}
 use Rattle.oce_model.proofs.Places.{field-end}
-use Rattle.image_framing.specs.Walk.{Ended, Walking, after, end_of, found_of, framed, start, stop_after}
+use Rattle.image_framing.specs.Walk.{Ended, Walking, after, end_of, framed, start, stop_after}
 use Rattle.image_framing.proofs.Walks.{walk-fits, walk_start, walk_step}
 
 -- ---- what is left
@@ -73,13 +72,13 @@ module _ {s : List ℕ} {rest : List Field} {end : ℕ} (v : Stopping s rest end
 
 -- ---- a search
 
-pub found_none : (o : maybe.Option ℕ) → None ≡ found_of o → o ≡ none
-found_none none h = refl
-found_none (some at) h = let z : ◌≡◌ {A = ℕ} 0 1 = cc in absurd (omega arith)
+pub found_none : (o : Option ℕ) → None ≡ o → o ≡ None
+found_none None h = refl
+found_none (Some at) h = let z : ◌≡◌ {A = ℕ} 0 1 = cc in absurd (omega arith)
 
-pub found_some : (o : maybe.Option ℕ) (at : ℕ) → Some at ≡ found_of o → o ≡ some at
-found_some none at h = let z : ◌≡◌ {A = ℕ} 0 1 = cc in absurd (omega arith)
-found_some (some x) at h = cc
+pub found_some : (o : Option ℕ) (at : ℕ) → Some at ≡ o → o ≡ Some at
+found_some None at h = let z : ◌≡◌ {A = ℕ} 0 1 = cc in absurd (omega arith)
+found_some (Some x) at h = cc
 
 -- none of the fields passed passes the test p
 pub record Searching (p : Field → Bool) (s : List ℕ) (rest : List Field) : Type 0 where
@@ -98,15 +97,15 @@ module _ {p : Field → Bool} {s : List ℕ} {rest : List Field} (v : Searching 
       pub searching-next : b ≡ false → Searching p s later
       searching-next u = record { left = left-next v.left e; same = sym (first-later p f later (sym t ∙ u)) ∙ ap (first p) (sym e) ∙ v.same }
 
-      pub searching-found : b ≡ true → Some f.at ≡ found_of (first p (fields s))
-      searching-found u = sym (ap found_of (sym v.same ∙ ap (first p) e ∙ first-here p f later (sym t ∙ u)))
+      pub searching-found : b ≡ true → Some f.at ≡ (first p (fields s))
+      searching-found u = sym (ap (sym v.same ∙ ap (first p) e ∙ first-here p f later (sym t ∙ u)))
 
-  pub searching-none : rest ≡ [] → first p (fields s) ≡ none
+  pub searching-none : rest ≡ [] → first p (fields s) ≡ None
   unfolding first
   searching-none e = sym v.same ∙ ap (first p) e
 
-  pub searching-end : rest ≡ [] → None ≡ found_of (first p (fields s))
-  searching-end e = sym (ap found_of (searching-none e))
+  pub searching-end : rest ≡ [] → None ≡ (first p (fields s))
+  searching-end e = sym (ap (searching-none e))
 
 -- ---- framing
 
@@ -114,17 +113,17 @@ module _ {p : Field → Bool} {s : List ℕ} {rest : List Field} (v : Searching 
 pub record Framing (s : List ℕ) (rest : List Field) (bad : Option ℕ) (end : ℕ) : Type 0 where
   pub left : Left s rest
   pub stopping : Stopping s rest end
-  pub found : option_or bad (found_of (first bad_tag rest)) ≡ found_of (first bad_tag (fields s))
+  pub found : option_or bad ((first bad_tag rest)) ≡ (first bad_tag (fields s))
 
 pub framing-start : {s : List ℕ} {rest : List Field} → rest ≡ fields s → Framing s rest None 0
 framing-start {s} e = rw e (record { left = left-all s; stopping = stopping-start refl; found = refl })
 
-one_more : (bad : Option ℕ) (f : Field) (l : List Field) → option_or (option_or bad (then_some (bad_tag f) f.at)) (found_of (first bad_tag l)) ≡ option_or bad (found_of (first bad_tag (f ∷ l)))
+one_more : (bad : Option ℕ) (f : Field) (l : List Field) → option_or (option_or bad (then_some (bad_tag f) f.at)) ((first bad_tag l)) ≡ option_or bad ((first bad_tag (f ∷ l)))
 unfolding first
 one_more (Some at) f l = refl
 one_more None f l = arm (bad_tag f)
   where
-    arm : (b : Bool) → option_or (then_some b f.at) (found_of (first bad_tag l)) ≡ found_of (cond b (some f.at) (first bad_tag l))
+    arm : (b : Bool) → option_or (then_some b f.at) ((first bad_tag l)) ≡ (cond b (Some f.at) (first bad_tag l))
     arm true = refl
     arm false = refl
 
@@ -141,7 +140,7 @@ module _ {s : List ℕ} {rest : List Field} {bad : Option ℕ} {end : ℕ} (v : 
     framing-next t p q r = record {
       left = left-next v.left e;
       stopping = stopping-next v.stopping e r;
-      found = rw (q, p, t) (one_more bad f later) ∙ ap (λ l. option_or bad (found_of (first bad_tag l))) (sym e) ∙ v.found;
+      found = rw (q, p, t) (one_more bad f later) ∙ ap (λ l. option_or bad ((first bad_tag l))) (sym e) ∙ v.found;
     }
 
   module _ (e : rest ≡ []) where
@@ -152,7 +151,7 @@ module _ {s : List ℕ} {rest : List Field} {bad : Option ℕ} {end : ℕ} (v : 
     pub framing-whole : length s ≤ end → Ok bad ≡ framed s
     unfolding framed first
     framing-whole h =
-        let found : bad ≡ found_of (first bad_tag (fields s)) = sym (none_more bad) ∙ ap (λ l. option_or bad (found_of (first bad_tag l))) (sym e) ∙ v.found in
+        let found : bad ≡ (first bad_tag (fields s)) = sym (none_more bad) ∙ ap (λ l. option_or bad ((first bad_tag l))) (sym e) ∙ v.found in
         sym (rw (stopping-end v.stopping e, le-ltb end (length s) h, ← found) refl)
 
 -- ---- the same search by `next_field`

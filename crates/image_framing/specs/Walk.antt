@@ -1,7 +1,5 @@
 -- The fields of an image, one after the other, as a loop goes through them. FORMAT 2.
 use Rattle.std.specs.Prelude.{ℕ, zero, suc, ◌+◌, ◌≤◌, ◌≡◌, cond, List, [], ◌∷◌, leb, ltb, length, Option, None, Some, Result, Ok, Err}
-use Rattle.std.proofs.Math.Option as maybe
-use Rattle.std.proofs.Math.Option.{none, some}
 use Rattle.numbers.specs.Bytes.{byte, le16}
 use Rattle.oce_model.specs.Format.{leading_bytes, field_length_at, longest_image}
 use Rattle.oce_model.specs.Image.{field_end, field_at, ord_of, fields, fields_from, stop, first}
@@ -73,10 +71,10 @@ stop_after at [] = at
 stop_after at (f ∷ fs) = stop_after (end_of f) fs
 
 -- an offset that a definition finds, as code gives it
-abbrev pub found_of : maybe.Option ℕ → Option ℕ
-found_of none = None
-found_of (some at) = Some at
+abbrev pub : Option ℕ → Option ℕ
+None = None
+(Some at) = Some at
 
 -- what framing finds
 unfoldable pub framed : List ℕ → Result (Option ℕ) ℕ
-framed s = cond (ltb (stop s) (length s)) (Err (stop s)) (Ok (found_of (first bad_tag (fields s))))
+framed s = cond (ltb (stop s) (length s)) (Err (stop s)) (Ok ((first bad_tag (fields s))))

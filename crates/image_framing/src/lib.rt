@@ -7,7 +7,7 @@ ghost use Rattle.numbers.specs.Bytes.{byte_range, short_range, long_range};
 ghost use Rattle.oce_model.specs.Format.{leading_bytes, longest_image};
 ghost use Rattle.oce_model.specs.Image.{ord_of, fields, first};
 ghost use Rattle.oce_model.specs.Refusals.{fault};
-ghost use Rattle.image_framing.specs.Walk.{leading_at, whole_at, placed, start, after, end_of, found_of, framed};
+ghost use Rattle.image_framing.specs.Walk.{leading_at, whole_at, placed, start, after, end_of, framed};
 
 mod fields;
 
@@ -128,7 +128,7 @@ pub fn frame(s: &[u8]) -> Result<Option<usize>, usize>
 // The offset of the first field that is at fault under refusal k, where there are n texts.
 pub fn first_fault(k: usize, n: usize, s: &[u8]) -> Option<usize>
     requires { length s.now ≤ longest_image }
-    ensures { result ≡ found_of (first (fault k n s.now) (fields s.now)) }
+    ensures { result ≡ (first (fault k n s.now) (fields s.now)) }
 {
     for f in Fields::of(s) {
         if is_at_fault(k, n, s, f) {

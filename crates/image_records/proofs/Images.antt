@@ -2,7 +2,7 @@
 use Prim.Native.Nat.{ℕ, ◌+◌, ◌*◌, ◌<◌, ◌≤◌}
 use mathlib.Core.Path.{◌≡◌, refl, sym}
 use mathlib.Core.List.{List}
-use mathlib.Core.Option.{Option, none, some}
+use Rattle.std.specs.Prelude.{Option, Some, None}
 use lib.ListN.{length, get_or}
 use Rattle.oce_model.specs.Format.{block_tag, most_blocks, most_connectors, most_connections, most_external_inputs, most_boundary_inputs, most_boundary_outputs}
 use Rattle.oce_model.specs.Model.{model_of, block_count, connector_count, connection_count, boundary_input_count, boundary_output_count, ids_at, block, block_at}
@@ -71,13 +71,13 @@ block-whole s at p q r w = rw (p, q, r, w) refl
 
 -- ---- what accepting says
 
-refused-as : (s : List ℕ) (o : Option Refusal) (n at : ℕ) → Refused n at ≡ accepts s o → o ≡ some (record { number = n; offset = at })
-refused-as s none n at e = absurd (cc)
-refused-as s (some r) n at e =
+refused-as : (s : List ℕ) (o : Option Refusal) (n at : ℕ) → Refused n at ≡ accepts s o → o ≡ Some (record { number = n; offset = at })
+refused-as s None n at e = absurd (cc)
+refused-as s (Some r) n at e =
     let p : r.number ≡ n = cc in
     let q : r.offset ≡ at = cc in
     rw (← p, ← q) refl
 
-pub is-refused : (s : List ℕ) {n at : ℕ} → Refused n at ≡ acceptance s → refusal s ≡ some (record { number = n; offset = at })
+pub is-refused : (s : List ℕ) {n at : ℕ} → Refused n at ≡ acceptance s → refusal s ≡ Some (record { number = n; offset = at })
 unfolding acceptance
 is-refused s {n} {at} e = refused-as s (refusal s) n at e

@@ -1,6 +1,6 @@
 -- What an image is accepted as. FORMAT 6.
 use Rattle.std.specs.Prelude.{ℕ, ◌+◌, ◌*◌, ◌≤◌, ◌≡◌, List, length, Result, Ok, Err}
-use Rattle.std.proofs.Math.Option.{none, some}
+use Rattle.std.specs.Prelude.{Some, None}
 use Rattle.oce_model.specs.Refusals.{Refusal as Refused, refusal}
 use Rattle.oce_model.specs.Format.{longest_image, most_ports, block_ports, port_length}
 use Rattle.oce_model.specs.Model.{Block as ModelBlock, input_count_at, output_count_at}
@@ -13,8 +13,8 @@ as_refused r = record { number = r.number; offset = r.at }
 
 -- an image of the bytes s, of which no refusal applies; or the first that does
 abbrev pub Accepts : List ℕ → Result (List ℕ) Refusal → Type 0
-Accepts s (Ok image) = (image ≡ s) × (refusal s ≡ none)
-Accepts s (Err r) = refusal s ≡ some (as_refused r)
+Accepts s (Ok image) = (image ≡ s) × (refusal s ≡ None)
+Accepts s (Err r) = refusal s ≡ Some (as_refused r)
 
 -- a block by value
 unfoldable pub block_value : ModelBlock → Block

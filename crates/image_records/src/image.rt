@@ -1,7 +1,7 @@
 // An accepted image, with its records by their numbers. Clauses see it as its bytes.
 
 ghost use Rattle.std.specs.Prelude.{◌≡◌, ◌+◌, ◌*◌, ◌<◌, ◌≤◌, ℕ, List, length, get_or};
-ghost use Rattle.std.proofs.Math.Option.{none};
+ghost use Rattle.std.specs.Prelude.{None};
 ghost use Rattle.numbers.specs.Bytes.{short_range, word_range};
 ghost use Rattle.oce_model.specs.Format.{text_tag, block_tag, attrs_length, most_blocks, most_connectors, most_connections, most_external_inputs, most_boundary_inputs, most_boundary_outputs};
 ghost use Rattle.oce_model.specs.Model.{model_of, block_count, connector_count, connection_count, boundary_input_count, boundary_output_count, block, connector, connection, boundary_input, boundary_output, text};
@@ -79,7 +79,7 @@ impl<'a> Image<'a> {
     // All of its bytes.
     pub fn bytes(&self) -> &'a [u8]
         ensures bytes { result.now ≡ self.now }
-        ensures accepted { refusal self.now ≡ none }
+        ensures accepted { refusal self.now ≡ None }
     {
         self.bytes
     }

@@ -6,7 +6,7 @@ use mathlib.Core.Path.{◌≡◌, refl, sym, ◌∙◌}
 use mathlib.Core.Logic.{◌≢◌}
 use mathlib.Core.Bool.{Bool, false, ◌&&◌, ◌||◌}
 use mathlib.Core.List.{List, Memᴰ}
-use mathlib.Core.Option.{none}
+use Rattle.std.specs.Prelude.{None}
 use lib.ListN.{length}
 use lib.Dec.{eqb, leb, ltb}
 use borrow.Author.Tests.{ne_eqb, le-ltb}
@@ -155,7 +155,7 @@ module _ (s t : List ℕ) (σ : Slots) (acc : Accepted s) (w : Rewritten s t σ)
       out (no e) = rw (ne_eqb f.tag boundary_output_tag e)
       out (yes e) = rw (out-fields s t σ acc w f m e).0 (or_parts (a s || b s || c s) (d s) all).1
 
-  pub accepts : refusal t ≡ none
+  pub accepts : refusal t ≡ None
   unfolding refusal refusals_from fault
   accepts =
       let l : length t ≡ length s = w.same in

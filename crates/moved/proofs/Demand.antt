@@ -3,7 +3,7 @@ use Prim.Native.Nat.{ℕ, ◌+◌, ◌^◌, ◌≤◌, ◌<◌}
 use mathlib.Core.Path.{◌≡◌, refl, ap, ◌∙◌}
 use mathlib.Core.Bool.{true, false, not, ◌&&◌, ◌||◌}
 use mathlib.Core.List.{List, []}
-use mathlib.Core.Option.{Option, none, some}
+use Rattle.std.specs.Prelude.{Option, Some, None}
 use mathlib.Core.Logic.{◌≢◌}
 use lib.ListN.{length, get_or}
 use lib.Dec.{eqb, ltb}
@@ -59,10 +59,10 @@ unfolding text
 text_same m f s u = ap (λ ts. get_or ts u []) s.texts
 
 alike_same : (m f : Model) → Same m f → (x y : Option ℕ) → alike f x y ≡ alike m x y
-alike_same m f s none none = refl
-alike_same m f s none (some v) = refl
-alike_same m f s (some u) none = refl
-alike_same m f s (some u) (some v) = rw (text_same m f s u, text_same m f s v)
+alike_same m f s None None = refl
+alike_same m f s None (Some v) = refl
+alike_same m f s (Some u) None = refl
+alike_same m f s (Some u) (Some v) = rw (text_same m f s u, text_same m f s v)
 
 units-same : (m f : Model) → Same m f → (a b : Attrs) → alike_units f a b ≡ alike_units m a b
 unfolding alike_units
@@ -115,7 +115,7 @@ unfolding filled_of final_slots report_of
 filled_is s h = rw h
 
 -- so its model is the image's with rule 6's slots
-pub again : (s : List ℕ) → Bytes s → refusal s ≡ none → has_error (report_of s) ≡ false → Filled (model_of s) (model_of (filled_of s))
+pub again : (s : List ℕ) → Bytes s → refusal s ≡ None → has_error (report_of s) ≡ false → Filled (model_of s) (model_of (filled_of s))
 unfolding filled_slots
 again s bytes ok clean = rw (filled_is s clean) (record { same = same-model s t σ acc w; connectors = connector-attrs s t σ acc w six caps; outputs = out-attrs s t σ acc w six caps })
   where
@@ -138,7 +138,7 @@ again s bytes ok clean = rw (filled_is s clean) (record { same = same-model s t 
     six = slots-numbers s (connector_count (model_of s))
 
 -- of every accepted image whose report holds no error and in which every connector's attributes are of its type's kind
-pub wired : (s : List ℕ) → Bytes s → refusal s ≡ none → has_error (report_of s) ≡ false → OfTypes (model_of s) → Wired (model_of s) (model_of (filled_of s))
+pub wired : (s : List ℕ) → Bytes s → refusal s ≡ None → has_error (report_of s) ≡ false → OfTypes (model_of s) → Wired (model_of s) (model_of (filled_of s))
 unfolding report_of filled_slots
 wired s bytes ok clean kinds = record {
   same = is.same;
@@ -181,7 +181,7 @@ wired s bytes ok clean kinds = record {
     room : Roomy (slots_of m)
     room = image-roomy s
 
-    plain : (i : ℕ) → (slot (filled_slots m) i).kind ≢ real_kind → (declared_at (slot (filled_slots m) i) quantity_bit ≡ none) × (declared_at (slot (filled_slots m) i) unit_bit ≡ none)
+    plain : (i : ℕ) → (slot (filled_slots m) i).kind ≢ real_kind → (declared_at (slot (filled_slots m) i) quantity_bit ≡ None) × (declared_at (slot (filled_slots m) i) unit_bit ≡ None)
     plain i = well-plain (text_count s) (slot (filled_slots m) i) ((filled-well s acc (connector_count m)).at i)
 
     chose : (x : ℕ → Datum) → Choice m f x → (i : ℕ) → chosen m i ≡ true → Chosen m st qu kinds room x i

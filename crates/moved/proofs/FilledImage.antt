@@ -4,7 +4,7 @@ use Prim.Native.Nat.{ℕ, ◌+◌, ◌<◌}
 use mathlib.Core.Path.{◌≡◌, refl, ◌∙◌}
 use mathlib.Core.Bool.{Bool, true, false, cond}
 use mathlib.Core.List.{List}
-use mathlib.Core.Option.{none}
+use Rattle.std.specs.Prelude.{None}
 use lib.ListN.{length}
 use Rattle.base.specs.Lists.{steps}
 use Rattle.oce_model.specs.Model.{Model, model_of, connector_count}
@@ -54,11 +54,11 @@ unfolding filled_of
 filled-rewritten s acc = rewritten s acc (final_slots (model_of s))
 
 -- it is as long as the image
-pub filled-length : (s : List ℕ) → refusal s ≡ none → length (filled_of s) ≡ length s
+pub filled-length : (s : List ℕ) → refusal s ≡ None → length (filled_of s) ≡ length s
 filled-length s ok = (filled-rewritten s (accepted s ok)).same
 
 -- it is accepted again
-pub filled-accepted : (s : List ℕ) → Bytes s → refusal s ≡ none → refusal (filled_of s) ≡ none
+pub filled-accepted : (s : List ℕ) → Bytes s → refusal s ≡ None → refusal (filled_of s) ≡ None
 unfolding filled_of
 filled-accepted s bytes ok =
     let p = final-is (model_of s) in
@@ -67,5 +67,5 @@ filled-accepted s bytes ok =
     (slots-numbers s p.0) (slots-caps s bytes p.0) (filled-well s (accepted s ok) p.0))
 
 -- with an error in the report it is the image
-pub filled-undone : (s : List ℕ) → Bytes s → refusal s ≡ none → has_error (report_of s) ≡ true → filled_of s ≡ s
+pub filled-undone : (s : List ℕ) → Bytes s → refusal s ≡ None → has_error (report_of s) ≡ true → filled_of s ≡ s
 filled-undone s bytes ok h = undone s bytes (accepted s ok) h

@@ -5,7 +5,7 @@ use mathlib.Core.Path.{◌≡◌, refl, sym, ap, ◌∙◌}
 use mathlib.Core.Logic.{◌≢◌}
 use mathlib.Core.Bool.{Bool, true, false, not, ◌&&◌, ◌||◌, true≢false, or-true}
 use mathlib.Core.List.{[], ◌∷◌, Memᴰ}
-use mathlib.Core.Option.{none}
+use Rattle.std.specs.Prelude.{None}
 use lib.Dec.{eqb, ltb}
 use lib.Signed.{mag}
 use borrow.Author.Tests.{eqb-true, ltb-true, lt-ltb, eq-eqb, ne_eqb, not-true}
@@ -103,7 +103,7 @@ module _ (m : Model) (stars : Stars m) (quiet : Quiet m) (kinds : OfTypes m) (ro
       (out-kind i l ∙ sym (slot-kind r a))
 
   -- where kinds other than Real have neither unit nor quantity
-  module _ (plain : (i : ℕ) → (slot (filled_slots m) i).kind ≢ real_kind → (declared_at (slot (filled_slots m) i) quantity_bit ≡ none) × (declared_at (slot (filled_slots m) i) unit_bit ≡ none)) where
+  module _ (plain : (i : ℕ) → (slot (filled_slots m) i).kind ≢ real_kind → (declared_at (slot (filled_slots m) i) quantity_bit ≡ None) × (declared_at (slot (filled_slots m) i) unit_bit ≡ None)) where
     pub wire-units : (k : ℕ) → k < connection_count m → alike_units m (slot (filled_slots m) (connection m k).to) (slot (filled_slots m) (connection m k).from) ≡ true
     wire-units k l = same_units m _ _ (wire-key k l) (plain (connection m k).to) (plain (connection m k).from)
 

@@ -5,7 +5,7 @@ use native.Mathlib.Omega.{arith}
 use mathlib.Core.Path.{◌≡◌, refl}
 use mathlib.Core.Bool.{Bool, true, false, cond}
 use mathlib.Core.List.{[], List, ◌∷◌}
-use mathlib.Core.Option.{Option, none, some}
+use Rattle.std.specs.Prelude.{Option, Some, None}
 use lib.ListN.{length, get_or, set}
 use lib.Seq.{get_or-set_same, get_or-set_other, set_out}
 use Rattle.base.specs.Lists.{all, steps}
@@ -24,7 +24,7 @@ pub record All (P : Attrs → Type 0) (σ : Slots) : Type 0 where
 
 module _ (P : Attrs → Type 0) (Ok : ℕ → ℕ → Type 0)
     (put_Keeps : (d : Detail) (v : ℕ) (a : Attrs) → Ok (bit_of d) v → P a → P (put d v a))
-    (value-ok : (d : Detail) (v : ℕ) (a : Attrs) → P a → value d a ≡ some v → Ok (bit_of d) v) where
+    (value-ok : (d : Detail) (v : ℕ) (a : Attrs) → P a → value d a ≡ Some v → Ok (bit_of d) v) where
   set_keeps : (σ : Slots) (j : ℕ) (x : Attrs) → All P σ → P x → All P (set σ j x)
   unfolding slot
   set_keeps σ j x c k = record { at = λ i. arm i (ℕ_discrete i j) (dec_lt j (length σ)) }
@@ -46,8 +46,8 @@ module _ (P : Attrs → Type 0) (Ok : ℕ → ℕ → Type 0)
   declared-ok d v vs (j ∷ js) σ c h = arm (value d (slot σ j)) refl h (declared-ok d v vs js σ c)
     where
       arm : (o : Option ℕ) → value d (slot σ j) ≡ o → cons? o (declarations d σ js) ≡ v ∷ vs → (declarations d σ js ≡ v ∷ vs → Ok (bit_of d) v) → Ok (bit_of d) v
-      arm none e h ih = ih h
-      arm (some u) e h ih = let q : u ≡ v = cc in rw q at (value-ok d u (slot σ j) (c.at j) e)
+      arm None e h ih = ih h
+      arm (Some u) e h ih = let q : u ≡ v = cc in rw q at (value-ok d u (slot σ j) (c.at j) e)
 
   fill-keeps : (ts : List (List ℕ)) (js : List ℕ) (d : Detail) (σ : Slots) → All P σ → All P (fill ts js d σ)
   unfolding fill settle

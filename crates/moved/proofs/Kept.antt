@@ -6,7 +6,8 @@ use mathlib.Core.Path.{◌≡◌, refl, sym, ap, ◌∙◌}
 use mathlib.Core.Logic.{◌≢◌}
 use mathlib.Core.Bool.{Bool, true, false, cond}
 use mathlib.Core.List.{List, [], ◌∷◌}
-use mathlib.Core.Option.{Option, none, some, none-ne-some}
+use Rattle.std.specs.Prelude.{Option, Some, None}
+use Rattle.base.proofs.Options.{none-ne-some}
 use lib.ListN.{length, get_or, set}
 use lib.Seq.{get_or-set_same, get_or-set_other, set_out}
 use lib.Dec.{eqb}
@@ -35,13 +36,13 @@ Kept-trans h k = record {
   vals = λ p v e. k.vals p v (h.vals p v e);
 }
 
-declare_at-bit : (a : Attrs) (p q v : ℕ) → declared_at a p ≡ none → q ≢ p → bit (declare_at a p v).marks q ≡ bit a.marks q
+declare_at-bit : (a : Attrs) (p q v : ℕ) → declared_at a p ≡ None → q ≢ p → bit (declare_at a p v).marks q ≡ bit a.marks q
 unfolding declare_at
 declare_at-bit a p q v h n = bit-other a.marks p q (unmarked a p h) n
 
 put_at-kept : (p v : ℕ) (a : Attrs) → p < 6 → (o : Option ℕ) → declared_at a p ≡ o → Kept a (put_at p v a o)
-put_at-kept p v a l (some u) e = Kept-refl a
-put_at-kept p v a l none e = record {
+put_at-kept p v a l (Some u) e = Kept-refl a
+put_at-kept p v a l None e = record {
   kind = with-kind;
   unbounded = (upper 6 (omega arith), upper 7 (omega arith));
   vals = λ q u h. other q u h (ℕ_discrete q p);
@@ -53,7 +54,7 @@ put_at-kept p v a l none e = record {
     upper : (q : ℕ) → 6 ≤ q → bit (declare_at a p v).marks q ≡ bit a.marks q
     upper q k = declare_at-bit a p q v e (omega arith)
 
-    other : (q u : ℕ) → declared_at a q ≡ some u → Dec (q ≡ p) → declared_at (declare_at a p v) q ≡ some u
+    other : (q u : ℕ) → declared_at a q ≡ Some u → Dec (q ≡ p) → declared_at (declare_at a p v) q ≡ Some u
     other q u h (yes i) = absurd (none-ne-some u (sym e ∙ ap (declared_at a) (sym i) ∙ h))
     other q u h (no n) = declare_at-other a p q v e n ∙ h
 

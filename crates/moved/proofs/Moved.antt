@@ -4,7 +4,7 @@ use native.Mathlib.Omega.{arith}
 use mathlib.Core.Path.{◌≡◌, refl, sym, ap, ◌∙◌}
 use mathlib.Core.Bool.{Bool, true, false, cond}
 use mathlib.Core.List.{List, ◌++◌}
-use mathlib.Core.Option.{Option, none, some}
+use Rattle.std.specs.Prelude.{Option, Some, None}
 use lib.ListN.{length, take, drop}
 use lib.Seq.{take_at, take-append_seam}
 use lib.Dec.{ltb}
@@ -28,7 +28,7 @@ use Rattle.moved.proofs.Demand.{wired}
 -- ---- an answer that is no refusal
 
 pub record Checks (s : List ℕ) (e w : ℕ) : Type 0 where
-  pub accepted : refusal s ≡ none
+  pub accepted : refusal s ≡ None
   pub counts : (e ≡ errors (report_of s)) × (w ≡ warnings (report_of s))
 
 refused-not : {X : Type 0} (n at e w : ℕ) → Refused n at ≡ Checked e w → X
@@ -41,14 +41,14 @@ checks s filled_room report_room e w h = go (refusal s) refl h
     ds : List Diagnostic
     ds = report_of s
 
-    arm : refusal s ≡ none → (b c : Bool) → cond b (Refused 9 (length s)) (cond c (Refused 10 (report_size ds)) (Checked (errors ds) (warnings ds))) ≡ Checked e w → Checks s e w
+    arm : refusal s ≡ None → (b c : Bool) → cond b (Refused 9 (length s)) (cond c (Refused 10 (report_size ds)) (Checked (errors ds) (warnings ds))) ≡ Checked e w → Checks s e w
     arm ok true c g = refused-not 9 (length s) e w g
     arm ok false true g = refused-not 10 (report_size ds) e w g
     arm ok false false g = record { accepted = ok; counts = (let p : errors ds ≡ e = cc in sym p, let p : warnings ds ≡ w = cc in sym p) }
 
     go : (o : Option Refusal) → refusal s ≡ o → answer_for s filled_room report_room o ≡ Checked e w → Checks s e w
-    go (some r) q g = refused-not r.number r.offset e w g
-    go none q g = arm q (ltb filled_room (length s)) (ltb report_room (report_size ds)) g
+    go (Some r) q g = refused-not r.number r.offset e w g
+    go None q g = arm q (ltb filled_room (length s)) (ltb report_room (report_size ds)) g
 
 -- ---- the two buffers
 

@@ -5,7 +5,8 @@ use mathlib.Core.Path.{◌≡◌, refl, sym, ap, ◌∙◌}
 use mathlib.Core.Logic.{◌≢◌}
 use mathlib.Core.Bool.{true, ◌&&◌}
 use mathlib.Core.List.{[], ◌∷◌}
-use mathlib.Core.Option.{Option, none, some, map, none-ne-some, some-ne-none}
+use Rattle.std.specs.Prelude.{Option, Some, None}
+use Rattle.base.proofs.Options.{map, none-ne-some, some-ne-none}
 use borrow.Author.Tests.{eq-eqb, ne_eqb}
 use Rattle.base.specs.Lists.{any}
 use Rattle.oce_model.specs.Format.{integer_kind, max_bit, min_bit, quantity_bit, real_kind, unit_bit}
@@ -32,16 +33,16 @@ unfolding value
 value-is d a e = rw (eq-eqb _ _ e)
 
 singles : (x y : Option ℕ) → map (λ v. v ∷ []) x ≡ map (λ v. v ∷ []) y → x ≡ y
-singles none none h = refl
-singles none (some v) h = absurd (none-ne-some _ h)
-singles (some u) none h = absurd (some-ne-none _ h)
-singles (some u) (some v) h = cc
+singles None None h = refl
+singles None (Some v) h = absurd (none-ne-some _ h)
+singles (Some u) None h = absurd (some-ne-none _ h)
+singles (Some u) (Some v) h = cc
 
 alike-texts : (m : Model) (x y : Option ℕ) → map (text m) x ≡ map (text m) y → alike m x y ≡ true
-alike-texts m none none h = refl
-alike-texts m none (some v) h = absurd (none-ne-some _ h)
-alike-texts m (some u) none h = absurd (some-ne-none _ h)
-alike-texts m (some u) (some v) h = let e : text m u ≡ text m v = cc in rw e (same_refl (text m v))
+alike-texts m None None h = refl
+alike-texts m None (Some v) h = absurd (none-ne-some _ h)
+alike-texts m (Some u) None h = absurd (some-ne-none _ h)
+alike-texts m (Some u) (Some v) h = let e : text m u ≡ text m v = cc in rw e (same_refl (text m v))
 
 module _ (m : Model) (a b : Attrs) (o : OneKey m a b) where
   vals : (d : Detail) → among d unified_details ≡ true → a.kind ≡ kind_of d → map (key m.texts d) (declared_at a (bit_of d)) ≡ map (key m.texts d) (declared_at b (bit_of d))
@@ -85,7 +86,7 @@ module _ (m : Model) (a b : Attrs) (o : OneKey m a b) where
   same-inside v = ap (λ r. inside r v) same-bounds
 
   -- where other kinds have neither unit nor quantity
-  pub same_units : (a.kind ≢ real_kind → (declared_at a quantity_bit ≡ none) × (declared_at a unit_bit ≡ none)) → (b.kind ≢ real_kind → (declared_at b quantity_bit ≡ none) × (declared_at b unit_bit ≡ none)) → alike_units m a b ≡ true
+  pub same_units : (a.kind ≢ real_kind → (declared_at a quantity_bit ≡ None) × (declared_at a unit_bit ≡ None)) → (b.kind ≢ real_kind → (declared_at b quantity_bit ≡ None) × (declared_at b unit_bit ≡ None)) → alike_units m a b ≡ true
   unfolding alike_units
   same_units p q = arm (ℕ_discrete a.kind 0)
     where

@@ -5,7 +5,7 @@ use native.Mathlib.Omega.{arith}
 use mathlib.Core.Path.{◌≡◌, refl}
 use mathlib.Core.Bool.{Bool, true, false, cond, ◌&&◌, false≢true}
 use mathlib.Core.List.{[]}
-use mathlib.Core.Option.{Option, none, some}
+use Rattle.std.specs.Prelude.{Option, Some, None}
 use lib.Dec.{T, leb}
 use lib.IntN.{ℤ, pos, negsuc}
 use lib.Signed.{mag}
@@ -82,12 +82,12 @@ real-fit x y h = arm x y (finite_end x && finite_end y) refl h
     arm : (x y : Option ℕ) (t : Bool) → (finite_end x && finite_end y) ≡ t → crossed (cond t (Within (Real (real_end x) (real_end y))) Absent) ≡ false
         → Fit 0 (cond t (Within (Real (real_end x) (real_end y))) Absent) (real (pick_real (cond t (Within (Real (real_end x) (real_end y))) Absent)))
     arm x y false e h = record { kind = zero-real; range = refl }
-    arm none none true e h = record { kind = zero-real; range = refl }
-    arm none (some q) true e h = record { kind = bits-real q e; range = real-le-refl (real64 q) e }
-    arm (some p) none true e h =
+    arm None None true e h = record { kind = zero-real; range = refl }
+    arm None (Some q) true e h = record { kind = bits-real q e; range = real-le-refl (real64 q) e }
+    arm (Some p) None true e h =
         let f = (and_parts (finite (real64 p)) true e).0 in
         record { kind = bits-real p f; range = and_both _ true (real-le-refl (real64 p) f) refl }
-    arm (some p) (some q) true e h =
+    arm (Some p) (Some q) true e h =
         let f = and_parts (finite (real64 p)) (finite (real64 q)) e in
         record { kind = bits-real p f.0; range = and_both _ _ (real-le-refl (real64 p) f.0) (real-not-lt-le (real64 p) (real64 q) h f.0 f.1) }
 
@@ -101,8 +101,8 @@ signed-mag b = arm (dec_lt b (2 ^ 63))
     arm (no l) = rw (le-ltb b (2 ^ 63) (omega arith)) (omega arith)
 
 default-mag : (o : Option ℕ) (z : ℤ) → mag z < 2 ^ 63 → mag (or_default o z) < 2 ^ 63
-default-mag none z h = h
-default-mag (some b) z h = signed-mag b
+default-mag None z h = h
+default-mag (Some b) z h = signed-mag b
 
 integer-fit : (lo hi : ℤ) → mag lo < 2 ^ 63 → crossed (Within (Integer lo hi)) ≡ false → Fit 1 (Within (Integer lo hi)) (integer lo)
 unfolding of_kind inside inside_bounds crossed crossed_bounds

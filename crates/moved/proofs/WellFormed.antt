@@ -6,7 +6,8 @@ use mathlib.Core.Path.{◌≡◌, refl, sym, ◌∙◌}
 use mathlib.Core.Logic.{◌≢◌}
 use mathlib.Core.Bool.{Bool, true, false, cond, not, ◌&&◌, ◌||◌, and-false}
 use mathlib.Core.List.{List, Memᴰ}
-use mathlib.Core.Option.{Option, none, some, none-ne-some}
+use Rattle.std.specs.Prelude.{Option, Some, None}
+use Rattle.base.proofs.Options.{none-ne-some}
 use lib.ListN.{length, get_or, set, get_or-eq_default}
 use lib.Seq.{get_or-set_same, get_or-set_other, set_out}
 use lib.Dec.{eqb, leb, ltb}
@@ -145,12 +146,12 @@ plain-marks k b g h n = arm (ℕ_discrete k 1)
         let z : b ≡ 0 = eqb-true b 0 (not-false _ (rw (lt-ltb 1 k (omega arith)) at h)) in
         rw z (refl, refl)
 
-unmarked-none : (a : Attrs) (p : ℕ) → bit a.marks p ≡ false → declared_at a p ≡ none
+unmarked-none : (a : Attrs) (p : ℕ) → bit a.marks p ≡ false → declared_at a p ≡ None
 unfolding declared_at
 unmarked-none a p h = rw h
 
 -- kinds other than Real have neither
-pub well-plain : (n : ℕ) (a : Attrs) → Well n a → a.kind ≢ real_kind → (declared_at a quantity_bit ≡ none) × (declared_at a unit_bit ≡ none)
+pub well-plain : (n : ℕ) (a : Attrs) → Well n a → a.kind ≢ real_kind → (declared_at a quantity_bit ≡ None) × (declared_at a unit_bit ≡ None)
 well-plain n a w e =
     let p = plain-marks a.kind a.marks w.integer w.others e in
     (unmarked-none a 0 p.0, unmarked-none a 1 p.1)
@@ -161,7 +162,7 @@ well-plain n a w e =
 abbrev pub Ok : ℕ → ℕ → ℕ → Type 0
 Ok n p v = p < 3 → v < n
 
-module _ (n : ℕ) (d : Detail) (v : ℕ) (a : Attrs) (ok : Ok n (bit_of d) v) (w : Well n a) (same : a.kind ≡ kind_of d) (free : declared_at a (bit_of d) ≡ none) where
+module _ (n : ℕ) (d : Detail) (v : ℕ) (a : Attrs) (ok : Ok n (bit_of d) v) (w : Well n a) (same : a.kind ≡ kind_of d) (free : declared_at a (bit_of d) ≡ None) where
   p : ℕ
   p = bit_of d
 
@@ -210,14 +211,14 @@ put-well n d v a ok w = arm (eqb a.kind (kind_of d)) refl (declared_at a (bit_of
   where
     arm : (b : Bool) → eqb a.kind (kind_of d) ≡ b → (o : Option ℕ) → declared_at a (bit_of d) ≡ o → Well n (cond b (put_at (bit_of d) v a o) a)
     arm false e o q = w
-    arm true e (some u) q = w
-    arm true e none q = declare_at-well n d v a ok w (eqb-true _ _ e) q
+    arm true e (Some u) q = w
+    arm true e None q = declare_at-well n d v a ok w (eqb-true _ _ e) q
 
-pub value-text : (n : ℕ) (d : Detail) (v : ℕ) (a : Attrs) → Well n a → value d a ≡ some v → Ok n (bit_of d) v
+pub value-text : (n : ℕ) (d : Detail) (v : ℕ) (a : Attrs) → Well n a → value d a ≡ Some v → Ok n (bit_of d) v
 unfolding value declared_at
 value-text n d v a w h l = arm (eqb a.kind (kind_of d)) (bit a.marks (bit_of d)) h (w.texts (bit_of d) l)
   where
-    arm : (b t : Bool) → cond b (marked t (num a (bit_of d))) none ≡ some v → (t && leb n (num a (bit_of d))) ≡ false → v < n
+    arm : (b t : Bool) → cond b (marked t (num a (bit_of d))) None ≡ Some v → (t && leb n (num a (bit_of d))) ≡ false → v < n
     arm false t h g = absurd (none-ne-some v h)
     arm true false h g = absurd (none-ne-some v h)
     arm true true h g = let e : num a (bit_of d) ≡ v = cc in rw e at (leb-false n (num a (bit_of d)) g)

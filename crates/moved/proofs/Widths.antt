@@ -5,7 +5,8 @@ use native.Mathlib.Omega.{arith}
 use mathlib.Core.Path.{◌≡◌, refl, ap, ◌∙◌}
 use mathlib.Core.Bool.{Bool, true, false, cond}
 use mathlib.Core.List.{List}
-use mathlib.Core.Option.{Option, none, some, none-ne-some}
+use Rattle.std.specs.Prelude.{Option, Some, None}
+use Rattle.base.proofs.Options.{none-ne-some}
 use lib.ListN.{length, get_or, set, get_or-eq_default}
 use lib.Seq.{get_or-set_same, get_or-set_other, set_out}
 use lib.Dec.{eqb}
@@ -42,17 +43,17 @@ put-caps d v a l c = arm (eqb a.kind (kind_of d)) (declared_at a (bit_of d))
 
     arm : (b : Bool) (o : Option ℕ) → Caps (cond b (put_at at v a o) a)
     arm false o = c
-    arm true (some u) = c
-    arm true none = record { at = λ q. new q (ℕ_discrete q at) (dec_lt at (length a.nums)) }
+    arm true (Some u) = c
+    arm true None = record { at = λ q. new q (ℕ_discrete q at) (dec_lt at (length a.nums)) }
 
 abbrev pub AllCaps : Slots → Type 0
 AllCaps = All Caps
 
-value-cap : (d : Detail) (v : ℕ) (a : Attrs) → Caps a → value d a ≡ some v → v < cap (bit_of d)
+value-cap : (d : Detail) (v : ℕ) (a : Attrs) → Caps a → value d a ≡ Some v → v < cap (bit_of d)
 unfolding value declared_at
 value-cap d v a c h = arm (eqb a.kind (kind_of d)) (bit a.marks (bit_of d)) h
   where
-    arm : (b t : Bool) → cond b (marked t (num a (bit_of d))) none ≡ some v → v < cap (bit_of d)
+    arm : (b t : Bool) → cond b (marked t (num a (bit_of d))) None ≡ Some v → v < cap (bit_of d)
     arm false t h = absurd (none-ne-some v h)
     arm true false h = absurd (none-ne-some v h)
     arm true true h = let e : num a (bit_of d) ≡ v = cc in rw e at (c.at (bit_of d))

@@ -6,7 +6,7 @@ use native.Mathlib.Omega.{arith}
 use mathlib.Core.Path.{◌≡◌, refl, sym}
 use mathlib.Core.Bool.{Bool, true, false}
 use mathlib.Core.List.{List, [], ◌∷◌, map, append-nil}
-use mathlib.Core.Option.{none}
+use Rattle.std.specs.Prelude.{None}
 use lib.ListN.{length, take, drop, get_or-eq_default}
 use lib.Dec.{eqb, ltb}
 use lib.IntN.{pos}
@@ -161,7 +161,7 @@ says-no = record {
 
 -- accepted and without a diagnostic, yet an In of type Real with attributes of kind Integer is filled to the range from 5 to 3
 pub record Unlike : Type 0 where
-  pub accepted : refusal unlike ≡ none
+  pub accepted : refusal unlike ≡ None
   pub no_diagnostic : report_of unlike ≡ []
   pub count : connector_count (model_of unlike) ≡ 3
   pub input : is_in (connector (model_of unlike) 1) ≡ true

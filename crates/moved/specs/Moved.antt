@@ -16,7 +16,7 @@
 --
 -- `Moved`, at the end of this file, is the demand, and what `check` promises; `Left` has parts 1 and 2, `Wired` parts 3 to 7.
 use Rattle.std.specs.Prelude.{ℕ, ◌<◌, ◌≡◌, Bool, true, false, cond, not, ◌&&◌, ◌||◌, List, [], ◌∷◌, length, take}
-use Rattle.std.proofs.Math.Option.{Option, none, some}
+use Rattle.std.specs.Prelude.{Option, Some, None}
 use Rattle.base.specs.Lists.{each, only, below, same}
 use Rattle.numbers.specs.Bytes.{bit}
 use Rattle.oce_model.specs.Format.{quantity_bit, unit_bit, unbounded_bit, unbounded_value_bit, real_kind, min_bit, max_bit}
@@ -61,7 +61,7 @@ delivered m x o = only (chosen m o.source) (x o.source)
 pub record Kept (a b : Attrs) : Type 0 where
   pub kind : b.kind ≡ a.kind
   pub unbounded : (bit b.marks unbounded_bit ≡ bit a.marks unbounded_bit) × (bit b.marks unbounded_value_bit ≡ bit a.marks unbounded_value_bit)
-  pub vals : (p v : ℕ) → declared_at a p ≡ some v → declared_at b p ≡ some v
+  pub vals : (p v : ℕ) → declared_at a p ≡ Some v → declared_at b p ≡ Some v
 
 -- what a connector has besides its attributes
 pub record SameConnector (c d : Connector) : Type 0 where
@@ -90,10 +90,10 @@ pub record Same (m f : Model) : Type 0 where
 
 -- two texts are alike: both unset, or both set with equal bytes
 abbrev pub alike : Model → Option ℕ → Option ℕ → Bool
-alike m none none = true
-alike m none (some v) = false
-alike m (some u) none = false
-alike m (some u) (some v) = same (text m u) (text m v)
+alike m None None = true
+alike m None (Some v) = false
+alike m (Some u) None = false
+alike m (Some u) (Some v) = same (text m u) (text m v)
 
 unfoldable pub alike_units : Model → Attrs → Attrs → Bool
 alike_units m a b = alike m (declared_at a unit_bit) (declared_at b unit_bit) && alike m (declared_at a quantity_bit) (declared_at b quantity_bit)
@@ -160,7 +160,7 @@ pub record Left (s : List ℕ) (e w : ℕ) (f r : List ℕ) : Type 0 where
   -- 2
   pub filled : take (length s) f ≡ filled_of s
   pub undone : 0 < e → take (length s) f ≡ s
-  pub again : refusal (take (length s) f) ≡ none
+  pub again : refusal (take (length s) f) ≡ None
   -- 3 to 7, of the model that is read again from the filled buffer
   pub wired : e ≡ 0 → OfTypes (model_of s) → Wired (model_of s) (model_of (take (length s) f))
 

@@ -5,7 +5,8 @@ use mathlib.Core.Logic.{◌≢◌}
 use mathlib.Core.Path.{◌≡◌, refl, sym, ap, ◌∙◌}
 use mathlib.Core.Bool.{Bool, true, false, cond, not, ◌||◌}
 use mathlib.Core.List.{List, Memᴰ}
-use mathlib.Core.Option.{none, some, some-ne-none, Option}
+use Rattle.std.specs.Prelude.{Option, Some, None}
+use Rattle.base.proofs.Options.{some-ne-none}
 use lib.ListN.{length, length-map}
 use lib.Dec.{leb, eqb, ltb}
 use borrow.Author.Tests.{ne_eqb, not-false, eqb-true, leb-true, ltb-false}
@@ -49,15 +50,15 @@ stops s h =
     let least : length s ≤ stop_from (length s) s 0 = ltb-false _ (length s) h in
     omega arith
 
-passed : (k : ℕ) (o : Option ℕ) (r : Option Refusal) → refused_at k o r ≡ none → (o ≡ none) × (r ≡ none)
-passed k none r h = (refl, h)
-passed k (some at) r h = absurd (some-ne-none _ h)
+passed : (k : ℕ) (o : Option ℕ) (r : Option Refusal) → refused_at k o r ≡ None → (o ≡ None) × (r ≡ None)
+passed k None r h = (refl, h)
+passed k (Some at) r h = absurd (some-ne-none _ h)
 
-not-refused : (b : Bool) (x : Refusal) (r : Option Refusal) → cond b (some x) r ≡ none → (b ≡ false) × (r ≡ none)
+not-refused : (b : Bool) (x : Refusal) (r : Option Refusal) → cond b (Some x) r ≡ None → (b ≡ false) × (r ≡ None)
 not-refused true x r h = absurd (some-ne-none x h)
 not-refused false x r h = (refl, h)
 
-pub accepted : (s : List ℕ) → refusal s ≡ none → Accepted s
+pub accepted : (s : List ℕ) → refusal s ≡ None → Accepted s
 unfolding refusal refusals_from fault
 accepted s h =
     let p = not-refused (ltb (length s) shortest_image || ltb longest_image (length s)) _ _ h in

@@ -3,7 +3,7 @@ use Prim.Native.Nat.{ℕ}
 use mathlib.Core.Path.{◌≡◌, refl}
 use mathlib.Core.Bool.{Bool, true, false}
 use mathlib.Core.List.{List, [], ◌∷◌, map}
-use mathlib.Core.Option.{Option, none, some}
+use Rattle.std.specs.Prelude.{Option, Some, None}
 use lib.IntN.{pos, negsuc}
 use lib.ListN.{replicate, length, drop}
 use Rattle.numbers.specs.Bytes.{bit}
@@ -16,7 +16,7 @@ use Rattle.oce_model.specs.Build.{◌is◌, real_with, computed_build}
 use Rattle.oce_model.specs.Examples.{models, computed_examples}
 use Rattle.oce_model.specs.Raw.{raw_real_all, raw_image, raw_filled, computed_raw}
 
-pub accepted : map refusal models ≡ replicate (length models) none
+pub accepted : map refusal models ≡ replicate (length models) None
 unfolding computed computed_examples
 accepted = refl
 
@@ -51,12 +51,12 @@ named a = record {
 abbrev all_set : Named
 all_set = record {
   kind = real_kind;
-  quantity = some 3;
-  unit = some 1;
-  display_unit = some 2;
-  min = some 0x3FF1020304050607;
-  max = some 0x40080A0B0C0D0E0F;
-  nominal = some 0x4000121314151617;
+  quantity = Some 3;
+  unit = Some 1;
+  display_unit = Some 2;
+  min = Some 0x3FF1020304050607;
+  max = Some 0x40080A0B0C0D0E0F;
+  nominal = Some 0x4000121314151617;
   unbounded = true;
   unbounded_value = true;
 }
@@ -66,10 +66,10 @@ real_in_named quantity unit min max = record {
   kind = real_kind;
   quantity = quantity;
   unit = unit;
-  display_unit = none;
+  display_unit = None;
   min = min;
   max = max;
-  nominal = none;
+  nominal = None;
   unbounded = true;
   unbounded_value = false;
 }
@@ -78,11 +78,11 @@ real_in_named quantity unit min max = record {
 abbrev some_set : Named
 some_set = record {
   kind = real_kind;
-  quantity = some 2;
-  unit = none;
-  display_unit = none;
+  quantity = Some 2;
+  unit = None;
+  display_unit = None;
   min = all_set.min;
-  max = none;
+  max = None;
   nominal = all_set.nominal;
   unbounded = false;
   unbounded_value = false;
@@ -92,29 +92,29 @@ some_set = record {
 abbrev integer_ends : Option ℕ → Option ℕ → Named
 integer_ends min max = record {
   kind = integer_kind;
-  quantity = none;
-  unit = none;
-  display_unit = none;
+  quantity = None;
+  unit = None;
+  display_unit = None;
   min = min;
   max = max;
-  nominal = none;
+  nominal = None;
   unbounded = false;
   unbounded_value = false;
 }
 
 -- -7 and 258
 abbrev low_end : Option ℕ
-low_end = some 0xFFFFFFFFFFFFFFF9
+low_end = Some 0xFFFFFFFFFFFFFFF9
 
 abbrev high_end : Option ℕ
-high_end = some 258
+high_end = Some 258
 
 -- what a connector has besides its attributes
 abbrev besides : Connector → List ℕ
 besides c = c.id ∷ c.block ∷ c.dir ∷ c.value_type ∷ c.enum_class ∷ c.iri ∷ []
 
 pub record RawRead : Type 0 where
-  pub accepted : refusal raw_image ≡ none
+  pub accepted : refusal raw_image ≡ None
   -- -2,147,483,648 and 2,147,483,647
   pub defaults : (model_of raw_image).defaults ≡ record { min = negsuc 0x7FFFFFFF; max = pos 0x7FFFFFFF }
   pub texts : (model_of raw_image).texts ≡ (0x4B ∷ []) ∷ (0x54 ∷ []) ∷ (0x43 ∷ []) ∷ (0x75 ∷ []) ∷ []
@@ -123,13 +123,13 @@ pub record RawRead : Type 0 where
       ≡ (0 ∷ 0 ∷ dir_out ∷ real_kind ∷ 0 ∷ no_text ∷ []) ∷ (1 ∷ 0 ∷ dir_in ∷ real_kind ∷ 0 ∷ 3 ∷ [])
       ∷ (2 ∷ 0 ∷ dir_out ∷ integer_kind ∷ 0 ∷ no_text ∷ []) ∷ (3 ∷ 0 ∷ dir_in ∷ integer_kind ∷ 0 ∷ no_text ∷ []) ∷ []
   pub attributes : map (λ c. named c.attrs) (model_of raw_image).connectors
-      ≡ all_set ∷ real_in_named none none none none ∷ integer_ends low_end high_end ∷ integer_ends none none ∷ []
+      ≡ all_set ∷ real_in_named None None None None ∷ integer_ends low_end high_end ∷ integer_ends None None ∷ []
   pub connections : (model_of raw_image).connections ≡ record { from = 0; to = 1 } ∷ record { from = 2; to = 3 } ∷ []
   pub external_inputs : (model_of raw_image).external_inputs ≡ 1 ∷ []
   pub boundary_inputs : map (λ b. b.iri) (model_of raw_image).boundary_inputs ≡ 3 ∷ []
   pub input_attributes : map (λ b. named b.attrs) (model_of raw_image).boundary_inputs ≡ some_set ∷ []
   pub boundary_outputs : map (λ b. b.source ∷ b.iri ∷ []) (model_of raw_image).boundary_outputs ≡ (2 ∷ 1 ∷ []) ∷ []
-  pub output_attributes : map (λ b. named b.attrs) (model_of raw_image).boundary_outputs ≡ integer_ends low_end none ∷ []
+  pub output_attributes : map (λ b. named b.attrs) (model_of raw_image).boundary_outputs ≡ integer_ends low_end None ∷ []
   pub filled : map (λ c. named c.attrs) (model_of raw_filled).connectors
       ≡ all_set ∷ real_in_named all_set.quantity all_set.unit all_set.min all_set.max ∷ integer_ends low_end high_end ∷ integer_ends low_end high_end ∷ []
 

@@ -6,7 +6,8 @@ use mathlib.Core.Path.{◌≡◌, refl, sym, ap, ◌∙◌}
 use mathlib.Core.Bool.{Bool, true, false, cond}
 use mathlib.Core.List.Memᴰ
 use mathlib.Core.List.{List, [], ◌∷◌, Memᴰ}
-use mathlib.Core.Option.{none, some, some-ne-none}
+use Rattle.std.specs.Prelude.{Some, None}
+use Rattle.base.proofs.Options.{some-ne-none}
 use mathlib.Core.Logic.{◌⊎◌, inl, inr}
 use lib.ListN.{length, get_or}
 use lib.Dec.{leb, eqb}
@@ -24,12 +25,12 @@ pub data None (p : Field → Bool) : List Field → Type 0 where
   end : None p []
   and : {f : Field} {l : List Field} → p f ≡ false → None p l → None p (f ∷ l)
 
-pub none_of : (p : Field → Bool) (l : List Field) → first p l ≡ none → None p l
+pub none_of : (p : Field → Bool) (l : List Field) → first p l ≡ None → None p l
 unfolding first
 none_of p [] h = end
 none_of p (f ∷ l) h = arm (p f) refl h (none_of p l)
   where
-    arm : (b : Bool) → p f ≡ b → cond b (some f.at) (first p l) ≡ none → (first p l ≡ none → None p l) → None p (f ∷ l)
+    arm : (b : Bool) → p f ≡ b → cond b (Some f.at) (first p l) ≡ None → (first p l ≡ None → None p l) → None p (f ∷ l)
     arm true e h ih = absurd (some-ne-none f.at h)
     arm false e h ih = and e (ih h)
 
@@ -41,7 +42,7 @@ none-mem p l (and {f = g} {l = r} e n) f m = arm (Memᴰ.cases_cons m) (none-mem
     arm (inl q) ih = ap p q ∙ e
     arm (inr k) ih = ih k
 
-pub first-none : (p : Field → Bool) (l : List Field) → ((f : Field) → Memᴰ f l → p f ≡ false) → first p l ≡ none
+pub first-none : (p : Field → Bool) (l : List Field) → ((f : Field) → Memᴰ f l → p f ≡ false) → first p l ≡ None
 unfolding first
 first-none p [] h = refl
 first-none p (f ∷ l) h = rw (h f (Memᴰ.head refl)) (first-none p l (λ g m. h g (Memᴰ.tail m)))
@@ -149,7 +150,7 @@ walk_end s at prev rest w h = w.is ∙ go w.fuel
 
 -- ---- the first field that passes a test
 
-pub first-here : (p : Field → Bool) (f : Field) (l : List Field) → p f ≡ true → first p (f ∷ l) ≡ some f.at
+pub first-here : (p : Field → Bool) (f : Field) (l : List Field) → p f ≡ true → first p (f ∷ l) ≡ Some f.at
 unfolding first
 first-here p f l h = rw h
 

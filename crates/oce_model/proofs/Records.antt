@@ -8,7 +8,7 @@ use native.Mathlib.Nat.{not-suc-le-zero, le_of_suc-le-suc, mul-suc, mul-zero}
 use native.Mathlib.Omega.{arith}
 use mathlib.Core.Bool.{Bool, true, false, cond, ◌||◌}
 use mathlib.Core.List.{List, [], ◌∷◌}
-use mathlib.Core.Option.{some}
+use Rattle.std.specs.Prelude.{Some}
 use lib.ListN.{length, get_or, length-map}
 use lib.Dec.{leb, eqb, ltb}
 use Rattle.base.specs.Lists.{keep}
@@ -108,7 +108,7 @@ module _ (s : List ℕ) (t z : ℕ) where
         arm false n o ih = empty e
         arm true (and b n) (and g o) ih = side (leb t (byte s at)) refl
           where
-            side : (c : Bool) → leb t (byte s at) ≡ c → Run (field_at s at prev (ord_of prev ord (byte s at)) ∷ rest) (or_end (cond c (some at) (first p rest)) e)
+            side : (c : Bool) → leb t (byte s at) ≡ c → Run (field_at s at prev (ord_of prev ord (byte s at)) ∷ rest) (or_end (cond c (Some at) (first p rest)) e)
             side true h =
                 let l : t ≤ byte s at = leb-true _ _ h in
                 head-run (field_at s at prev (ord_of prev ord (byte s at))) rest (λ h. fixed (field_at s at prev (ord_of prev ord (byte s at))) h g) (run k (field_end s at) (byte s at) _ l n o)

@@ -1,6 +1,6 @@
 -- Attributes: 32 bytes of the image, and what they declare. FORMAT 4; the Rust's `Attrs`, `RealAttrs` and `IntAttrs`.
 use Rattle.std.specs.Prelude.{ℕ, ◌+◌, ◌^◌, Bool, true, false, List, [], ◌∷◌, ◌++◌, get_or, set}
-use Rattle.std.proofs.Math.Option.{Option, none, some}
+use Rattle.std.specs.Prelude.{Option, Some, None}
 use Rattle.numbers.specs.Bytes.{byte, le16, le64, le_bytes, bit, signed64, real64}
 use Rattle.oce_model.specs.Format.{quantity_bit, unit_bit, display_unit_bit, min_bit, max_bit, nominal_bit, attrs_marks_at, attrs_quantity_at, attrs_unit_at, attrs_display_unit_at, attrs_min_at, attrs_max_at, attrs_nominal_at}
 use Rattle.oce_model.specs.declared.RealAttrs.{RealAttrs}
@@ -34,8 +34,8 @@ attrs_bytes a =
 
 -- a number, if its bit is set
 abbrev pub marked : Bool → ℕ → Option ℕ
-marked true v = some v
-marked false v = none
+marked true v = Some v
+marked false v = None
 
 -- what is declared under bit p: its number, if the bit is set
 unfoldable pub declared_at : Attrs → ℕ → Option ℕ

@@ -1,6 +1,6 @@
 -- The fields of an image, which are walked by their lengths alone. FORMAT 2.
 use Rattle.std.specs.Prelude.{ℕ, zero, suc, ◌+◌, Bool, cond, List, [], ◌∷◌, length, eqb, leb}
-use Rattle.std.proofs.Math.Option.{Option, none, some}
+use Rattle.std.specs.Prelude.{Option, Some, None}
 use Rattle.base.specs.Lists.{keep}
 use Rattle.numbers.specs.Bytes.{byte, le16}
 use Rattle.oce_model.specs.Format.{leading_bytes, field_length_at}
@@ -48,13 +48,13 @@ of_tag t fs = keep (λ f. eqb f.tag t) fs
 
 -- the offset of the first field that passes a test
 unfoldable pub first : (Field → Bool) → List Field → Option ℕ
-first p [] = none
-first p (f ∷ fs) = let t = first p fs in cond (p f) (some f.at) t
+first p [] = None
+first p (f ∷ fs) = let t = first p fs in cond (p f) (Some f.at) t
 
 -- an offset, or else n
 abbrev pub or_end : Option ℕ → ℕ → ℕ
-or_end none n = n
-or_end (some at) n = at
+or_end None n = n
+or_end (Some at) n = at
 
 -- where the records of tag t begin: the offset of the first field with a tag from t on, the image's length if there is none
 unfoldable pub start_of : ℕ → List ℕ → ℕ

@@ -1,6 +1,6 @@
 -- When an image is turned away: refusals 1 to 8, in their order, and at the end the answer. FORMAT 6.
 use Rattle.std.specs.Prelude.{ℕ, zero, suc, ◌+◌, ◌*◌, Bool, cond, not, ◌&&◌, ◌||◌, false, List, length, eqb, leb, ltb}
-use Rattle.std.proofs.Math.Option.{Option, none, some}
+use Rattle.std.specs.Prelude.{Option, Some, None}
 use Rattle.base.specs.Lists.{any}
 use Rattle.numbers.specs.Bytes.{le16, bit}
 use Rattle.oce_model.specs.Format.{head_tag, text_tag, block_tag, connector_tag, boundary_input_tag, boundary_output_tag, highest_tag, most, longest_text, block_length, port_length, most_ports, fixed_length, shortest_image, longest_image, version, integer_kind, enum_kind, dir_out, no_text, quantity_bit, unit_bit, display_unit_bit, min_bit, max_bit, nominal_bit, unbounded_bit, unbounded_value_bit, connector_attrs, boundary_input_attrs, boundary_output_attrs, head_version_at, head_zeros_at}
@@ -91,14 +91,14 @@ bad_attrs a =
 -- where the attributes of a field stand: connectors, boundary inputs and boundary outputs have them
 unfoldable pub attrs_offset : Field → Option ℕ
 attrs_offset f =
-    cond (eqb f.tag connector_tag) (some (f.at + connector_attrs))
-    (cond (eqb f.tag boundary_input_tag) (some (f.at + boundary_input_attrs))
-    (cond (eqb f.tag boundary_output_tag) (some (f.at + boundary_output_attrs)) none))
+    cond (eqb f.tag connector_tag) (Some (f.at + connector_attrs))
+    (cond (eqb f.tag boundary_input_tag) (Some (f.at + boundary_input_attrs))
+    (cond (eqb f.tag boundary_output_tag) (Some (f.at + boundary_output_attrs)) None))
 
 -- a test of the attributes at an offset, if there are any
 abbrev pub on_attrs : List ℕ → (Attrs → Bool) → Option ℕ → Bool
-on_attrs s p none = false
-on_attrs s p (some at) = p (attrs_at s at)
+on_attrs s p None = false
+on_attrs s p (Some at) = p (attrs_at s at)
 
 -- a field's contents break a rule of theirs
 unfoldable pub bad_contents : List ℕ → Field → Bool
@@ -145,12 +145,12 @@ fault k n s f =
 
 -- refusal k at an offset, or else what comes behind it
 abbrev pub refused_at : ℕ → Option ℕ → Option Refusal → Option Refusal
-refused_at k none r = r
-refused_at k (some at) r = some (record { number = k; offset = at })
+refused_at k None r = r
+refused_at k (Some at) r = Some (record { number = k; offset = at })
 
 -- of the refusals from k on, j of them, the lowest that applies anywhere, with the offset of the first field at fault under it
 unfoldable pub refusals_from : ℕ → ℕ → List ℕ → List Field → Option Refusal
-refusals_from zero k s fs = none
+refusals_from zero k s fs = None
 refusals_from (suc j) k s fs =
     let rest = refusals_from j (suc k) s fs in
     refused_at k (first (fault k (length (of_tag text_tag fs)) s) fs) rest
@@ -159,5 +159,5 @@ refusals_from (suc j) k s fs =
 unfoldable pub refusal : List ℕ → Option Refusal
 refusal s =
     let rest = refusals_from 6 3 s (fields s) in
-    cond (bad_size s) (some (record { number = 1; offset = 0 }))
-    (cond (runs_past s) (some (record { number = 2; offset = stop s })) rest)
+    cond (bad_size s) (Some (record { number = 1; offset = 0 }))
+    (cond (runs_past s) (Some (record { number = 2; offset = stop s })) rest)

@@ -3,7 +3,7 @@ use Prim.Native.Nat.{ℕ, ◌+◌, ◌-◌, ◌*◌, ◌<◌, ◌≤◌}
 use native.Mathlib.Omega.{arith}
 use mathlib.Core.Path.{◌≡◌, refl, sym, ap, ◌∙◌}
 use mathlib.Core.List.{List}
-use mathlib.Core.Option.{Option, none, some}
+use Rattle.std.specs.Prelude.{Option, Some, None}
 use lib.ListN.{length, take}
 use lib.Seq.{take-append_seam}
 use mir.Syntax.{w32, w64}
@@ -106,8 +106,8 @@ module _ {s : List ℕ} {l : Layout} (h : Laid s l) where
 pub filled-written : (f : List ℕ) {s table f' : List ℕ} {c : Counted} {l : Layout} (n : ℕ) → Tallied s table c → Laid s l → f' ≡ starts_with (with_slots s (view n table)) f
     → n ≡ l.connectors.count + l.outputs.count → c.errors ≤ 0 → f' ≡ starts_with (filled_of s) f
 filled-written f {s} {table} {c = c} n t h e k z =
-    let none : c.errors ≡ 0 = omega arith in
-    e ∙ ap (λ x. starts_with x f) (ap (λ n. with_slots s (view n table)) (slots-counted h k) ∙ final t none)
+    let None : c.errors ≡ 0 = omega arith in
+    e ∙ ap (λ x. starts_with x f) (ap (λ n. with_slots s (view n table)) (slots-counted h k) ∙ final t None)
 
 -- ---- the table
 
@@ -137,8 +137,8 @@ checked-so s f r e w q = record { answer = sym q; filled = rw q; report = rw q }
 
 -- refusals 1 to 8
 away : (s : List ℕ) (n at filled room : ℕ) (o : Option Refusal) → accepts s o ≡ accepting.Refused n at → answer_for s filled room o ≡ Refused n at
-away s n at filled room none h = let z : ◌≡◌ {A = ℕ} 0 1 = cc in absurd (omega arith)
-away s n at filled room (some r) h =
+away s n at filled room None h = let z : ◌≡◌ {A = ℕ} 0 1 = cc in absurd (omega arith)
+away s n at filled room (Some r) h =
     let p : r.number ≡ n = cc in
     let q : r.offset ≡ at = cc in
     rw (p, q)

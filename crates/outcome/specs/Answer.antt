@@ -1,6 +1,6 @@
 -- The answer of a checking call, and what it leaves in its two buffers. FORMAT 1 and 6.
 use Rattle.std.specs.Prelude.{ℕ, ◌*◌, cond, List, [], ◌∷◌, length, ltb}
-use Rattle.std.proofs.Math.Option.{Option, none, some}
+use Rattle.std.specs.Prelude.{Option, Some, None}
 use Rattle.base.specs.Buffers.{starts_with}
 use Rattle.oce_model.specs.Model.{model_of}
 use Rattle.oce_model.specs.Refusals.{Refusal, refusal}
@@ -23,8 +23,8 @@ report_size ds = diagnostic_size * length ds
 -- The answer where refusals 1 to 8 give the last argument: the first of them; else 9, with the bytes needed, if the filled buffer is shorter than the image; else 10,
 -- likewise, if the report buffer is shorter than the report; else the report's errors and warnings. The two numbers are the buffers' lengths. FORMAT 6
 abbrev pub answer_for : List ℕ → ℕ → ℕ → Option Refusal → Answer
-answer_for s filled_room report_room (some r) = Refused r.number r.offset
-answer_for s filled_room report_room none =
+answer_for s filled_room report_room (Some r) = Refused r.number r.offset
+answer_for s filled_room report_room None =
     let ds = report_of s in
     cond (ltb filled_room (length s)) (Refused 9 (length s))
     (cond (ltb report_room (report_size ds)) (Refused 10 (report_size ds))

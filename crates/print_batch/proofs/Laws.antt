@@ -3,7 +3,7 @@ use Prim.Native.Nat.{ℕ, ◌+◌, ◌*◌, ◌<◌, ◌≤◌}
 use native.Mathlib.Omega.{arith}
 use mathlib.Core.Path.{◌≡◌, refl, sym, ap, ◌∙◌}
 use mathlib.Core.List.{List, [], ◌++◌, map, append_assoc, append-nil}
-use mathlib.Core.Option.{Option, none, some}
+use Rattle.std.specs.Prelude.{Option, Some, None}
 use lib.ListN.{length, take, drop, length-append, drop_of_length-le}
 use lib.Seq.{take-append_seam, drop-drop}
 use Rattle.base.specs.Buffers.{starts_with}
@@ -14,7 +14,7 @@ use Rattle.oce_model.specs.declared.Field.{Field}
 use Rattle.oce_diag.specs.Encoding.{diagnostic_size, report_bytes}
 use Rattle.oce_diag.proofs.Diagnostics.{errors-warnings}
 use Rattle.outcome.specs.Answer.{report_of}
-use Rattle.image_framing.specs.Walk.{after, end_of, found_of, start}
+use Rattle.image_framing.specs.Walk.{after, end_of, start}
 use Rattle.printed.specs.Pieces.{Row}
 use Rattle.printed.proofs.Row.{row-report}
 use Rattle.batch.specs.Fields.{image_in, images}
@@ -40,7 +40,7 @@ unfolding output_after starts_with
 left s o {n = n} e q w =
     let h : batch_answer s (length o) ≡ Written n = sym e ∙ w in
     record {
-      clean = found-clean s (ap found_of (sym (written-faultless s (length o) n h))) refl;
+      clean = found-clean s (ap (sym (written-faultless s (length o) n h))) refl;
       long = written-needed s (length o) n h;
       behind = drop (length (batch_output s)) o;
       bytes = q ∙ rw h;
@@ -56,8 +56,8 @@ row-there t = arm (refusal t)
     bare n xs = let l : length {A = ℕ} [] ≤ n = omega arith in ap (λ (l : List ℕ). xs ++ l) (drop_of_length-le [] l) ∙ append-nil xs
 
     arm : (o : Option Refusal) → Row (report_by t o) (count_of (summary_by t o))
-    arm none = rw (errors-warnings (report_of t)) (rw (bare (length (report_bytes (report_of t))) (report_bytes (report_of t))) at (row-report (report_of t) []))
-    arm (some r) = none_row []
+    arm None = rw (errors-warnings (report_of t)) (rw (bare (length (report_bytes (report_of t))) (report_bytes (report_of t))) at (row-report (report_of t) []))
+    arm (Some r) = none_row []
 
 -- ---- the pass
 

@@ -4,7 +4,7 @@ use native.Mathlib.Omega.{arith}
 use mathlib.Core.Path.{◌≡◌, ap, ◌∙◌}
 use mathlib.Core.Bool.{Bool, true, false, cond}
 use mathlib.Core.List.{List}
-use mathlib.Core.Option.{Option, none, some}
+use Rattle.std.specs.Prelude.{Option, Some, None}
 use lib.Dec.{ltb}
 use lib.ListN.{length, replicate, length-replicate}
 use Rattle.base.specs.Buffers.{starts_with}
@@ -45,8 +45,8 @@ pub none_row : (b : List ℕ) → Row b 0
 none_row b = record { found = λ i l. absurd (omega arith); after = λ i l. absurd (omega arith); fits = omega arith }
 
 row-left : (s b : List ℕ) (filled room : ℕ) (o : Option Refusal) → Row (if_checked (answer_for s filled room o) (starts_with (report_bytes (report_of s)) b) b) (count_of (answer_for s filled room o))
-row-left s b filled room (some r) = none_row b
-row-left s b filled room none = arm (ltb filled (length s)) (ltb room (report_size (report_of s)))
+row-left s b filled room (Some r) = none_row b
+row-left s b filled room None = arm (ltb filled (length s)) (ltb room (report_size (report_of s)))
   where
     a : Bool → Bool → Answer
     a x y = cond x (Refused 9 (length s)) (cond y (Refused 10 (report_size (report_of s))) (Checked (errors (report_of s)) (warnings (report_of s))))

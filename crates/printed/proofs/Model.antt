@@ -4,7 +4,7 @@ use native.Mathlib.Decide.{dec_lt}
 use native.Mathlib.Omega.{arith}
 use mathlib.Core.Path.{◌≡◌, refl}
 use mathlib.Core.List.{List, map}
-use mathlib.Core.Option.{none}
+use Rattle.std.specs.Prelude.{None}
 use lib.ListN.{length, get_or, length-map, get_or-eq_default}
 use Rattle.base.proofs.Lists.{length-tab}
 use Rattle.base.proofs.Members.{get_or-map}
@@ -59,7 +59,7 @@ module _ (s : List ℕ) (b : (i : ℕ) → byte s i < byte_range) where
     unfolding boundary_output model_of
     all-outputs = anywhere P (λ f. boundary_output_at s f.at) (of_tag boundary_output_tag (fields s)) no_boundary_output z (λ f. h f.at) e
 
-  pub bounded : refusal s ≡ none → Bounded (model_of s)
+  pub bounded : refusal s ≡ None → Bounded (model_of s)
   unfolding block_at connector_at boundary_input_at boundary_output_at no_block no_connector no_boundary_input no_boundary_output ids_at
   bounded acc =
       let h : Laid s (layout_of s) = record { accepted = acc; layout = refl } in

@@ -5,7 +5,7 @@ use mathlib.Core.Path.{◌≡◌, refl}
 use mathlib.Core.Bool.{Bool, true, false, cond, not, ◌&&◌, ◌||◌}
 use mathlib.Core.List.Memᴰ
 use mathlib.Core.List.{List, [], ◌∷◌}
-use mathlib.Core.Option.{none}
+use Rattle.std.specs.Prelude.{None}
 use lib.ListN.{length, get_or}
 use lib.Dec.{eqb, ltb}
 use Rattle.base.specs.Lists.{only, any, tally}
@@ -253,6 +253,6 @@ module _ (m : Model) (b : Bounded m) where
   report-fits = all_both before-fit (rule6-fits (has_error (rules_before6 m)))
 
 -- the report of an accepted image
-pub report_of-fits : (s : List ℕ) → ((i : ℕ) → byte s i < byte_range) → refusal s ≡ none → AllFitting (report_of s)
+pub report_of-fits : (s : List ℕ) → ((i : ℕ) → byte s i < byte_range) → refusal s ≡ None → AllFitting (report_of s)
 unfolding report_of
 report_of-fits s b h = report-fits (model_of s) (bounded s b h)

@@ -4,7 +4,7 @@ use native.Mathlib.Nat.{zero-add, add_assoc}
 use native.Mathlib.Omega.{arith}
 use mathlib.Core.Path.{◌≡◌, refl, sym, ap, ◌∙◌}
 use mathlib.Core.List.{List, [], ◌∷◌, ◌++◌}
-use mathlib.Core.Option.{none}
+use Rattle.std.specs.Prelude.{None}
 use lib.ListN.{length, get_or, drop}
 use Rattle.base.specs.Lists.{each}
 use Rattle.base.specs.Buffers.{starts_with}
@@ -65,7 +65,7 @@ lines-whole s ds b f =
     e = diagnostic_at [] 0
 
 -- all that is printed for an accepted image: the first line, and the lines of as many diagnostics as were counted, from the report that a check leaves
-pub printed-whole : (s b : List ℕ) → ((i : ℕ) → byte s i < byte_range) → refusal s ≡ none
+pub printed-whole : (s b : List ℕ) → ((i : ℕ) → byte s i < byte_range) → refusal s ≡ None
     → let ds = report_of s in
     let a = Checked (errors ds) (warnings ds) in
     printed s a ≡ first_line a ++ lines_from s (starts_with (report_bytes ds) b) 0 (errors ds + warnings ds)

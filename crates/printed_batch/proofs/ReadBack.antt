@@ -5,7 +5,7 @@ use mathlib.Core.Path.{◌≡◌, refl, sym, ◌∙◌}
 use mathlib.Core.Logic.{◌≢◌}
 use mathlib.Core.Bool.{Bool, true, false, cond, ◌||◌}
 use mathlib.Core.List.{List, [], ◌∷◌, ◌++◌}
-use mathlib.Core.Option.{Option, none, some}
+use Rattle.std.specs.Prelude.{Option, Some, None}
 use lib.Dec.{leb, ltb}
 use lib.ListN.{length, drop}
 use lib.Seq.{get_or-drop}
@@ -70,12 +70,12 @@ summary-there b o = rw (sym (get_or-drop o b refusal_place 0), number at_place, 
 -- ---- refusals of an image: a number from 1 to 8, and an offset that an image can have
 
 pub record Small (r : Refusal) : Type 0 where
-  pub some : r.number ≢ 0
+  pub Some : r.number ≢ 0
   pub few : r.number < byte_range
   pub near : r.offset < word_range
 
 -- a field that is found begins in the image
-first-within : (p : Field → Bool) (k : ℕ) (s : List ℕ) (at prev n x : ℕ) → first p (fields_from k s at prev n) ≡ some x → x ≤ length s
+first-within : (p : Field → Bool) (k : ℕ) (s : List ℕ) (at prev n x : ℕ) → first p (fields_from k s at prev n) ≡ Some x → x ≤ length s
 unfolding first fields_from field_end field_at
 first-within p zero s at prev n x h = let z : ◌≡◌ {A = ℕ} 0 1 = cc in absurd (omega arith)
 first-within p (suc k) s at prev n x h =
@@ -90,16 +90,16 @@ first-within p (suc k) s at prev n x h =
     rest : List Field
     rest = fields_from k s (field_end s at) (byte s at) (suc o)
 
-    test : (b : Bool) → field_end s at ≤ length s → cond b (some at) (first p rest) ≡ some x → (first p rest ≡ some x → x ≤ length s) → x ≤ length s
+    test : (b : Bool) → field_end s at ≤ length s → cond b (Some at) (first p rest) ≡ Some x → (first p rest ≡ Some x → x ≤ length s) → x ≤ length s
     test true l h ih = let e : at ≡ x = cc in omega arith
     test false l h ih = ih h
 
-    arm : (b : Bool) → leb (field_end s at) (length s) ≡ b → first p (cond b (f ∷ rest) []) ≡ some x → (first p rest ≡ some x → x ≤ length s) → x ≤ length s
+    arm : (b : Bool) → leb (field_end s at) (length s) ≡ b → first p (cond b (f ∷ rest) []) ≡ Some x → (first p rest ≡ Some x → x ≤ length s) → x ≤ length s
     arm true e h ih = test (p f) (leb-true (field_end s at) (length s) e) h ih
     arm false e h ih = let z : ◌≡◌ {A = ℕ} 0 1 = cc in absurd (omega arith)
 
 -- the refusals from k on
-from-small : (j k : ℕ) (s : List ℕ) (r : Refusal) → 0 < k → j + k < 10 → length s ≤ longest_image → refusals_from j k s (fields s) ≡ some r → Small r
+from-small : (j k : ℕ) (s : List ℕ) (r : Refusal) → 0 < k → j + k < 10 → length s ≤ longest_image → refusals_from j k s (fields s) ≡ Some r → Small r
 unfolding refusals_from fields
 from-small zero k s r a b l h = let z : ◌≡◌ {A = ℕ} 0 1 = cc in absurd (omega arith)
 from-small (suc j) k s r a b l h =
@@ -108,34 +108,34 @@ from-small (suc j) k s r a b l h =
     p : Field → Bool
     p = fault k (length (of_tag text_tag (fields s))) s
 
-    arm : (o : Option ℕ) → first p (fields s) ≡ o → refused_at k o (refusals_from j (suc k) s (fields s)) ≡ some r → (refusals_from j (suc k) s (fields s) ≡ some r → Small r) → Small r
-    arm none e h ih = ih h
-    arm (some x) e h ih =
+    arm : (o : Option ℕ) → first p (fields s) ≡ o → refused_at k o (refusals_from j (suc k) s (fields s)) ≡ Some r → (refusals_from j (suc k) s (fields s) ≡ Some r → Small r) → Small r
+    arm None e h ih = ih h
+    arm (Some x) e h ih =
         let n : k ≡ r.number = cc in
         let m : x ≡ r.offset = cc in
         let w : x ≤ length s = first-within p (length s) s 0 0 0 x e in
-        record { some = λ z. omega arith; few = omega arith; near = omega arith }
+        record { Some = λ z. omega arith; few = omega arith; near = omega arith }
 
-pub refusal-small : (s : List ℕ) (r : Refusal) → refusal s ≡ some r → Small r
+pub refusal-small : (s : List ℕ) (r : Refusal) → refusal s ≡ Some r → Small r
 unfolding refusal
 refusal-small s r h = size (ltb (length s) shortest_image || ltb longest_image (length s)) refl h
   where
     rest : Option Refusal
     rest = refusals_from 6 3 s (fields s)
 
-    past : (b : Bool) → ltb (stop s) (length s) ≡ b → length s ≤ longest_image → cond b (some (record { number = 2; offset = stop s })) rest ≡ some r → Small r
+    past : (b : Bool) → ltb (stop s) (length s) ≡ b → length s ≤ longest_image → cond b (Some (record { number = 2; offset = stop s })) rest ≡ Some r → Small r
     past true e l h =
         let n : 2 ≡ r.number = cc in
         let m : stop s ≡ r.offset = cc in
         let w : stop s < length s = ltb-true (stop s) (length s) e in
-        record { some = λ z. omega arith; few = omega arith; near = omega arith }
+        record { Some = λ z. omega arith; few = omega arith; near = omega arith }
     past false e l h = from-small 6 3 s r (omega arith) (omega arith) l h
 
-    size : (b : Bool) → (ltb (length s) shortest_image || ltb longest_image (length s)) ≡ b → cond b (some (record { number = 1; offset = 0 })) (cond (ltb (stop s) (length s)) (some (record { number = 2; offset = stop s })) rest) ≡ some r → Small r
+    size : (b : Bool) → (ltb (length s) shortest_image || ltb longest_image (length s)) ≡ b → cond b (Some (record { number = 1; offset = 0 })) (cond (ltb (stop s) (length s)) (Some (record { number = 2; offset = stop s })) rest) ≡ Some r → Small r
     size true e h =
         let n : 1 ≡ r.number = cc in
         let m : 0 ≡ r.offset = cc in
-        record { some = λ z. omega arith; few = omega arith; near = omega arith }
+        record { Some = λ z. omega arith; few = omega arith; near = omega arith }
     size false e h = past (ltb (stop s) (length s)) refl (ltb-false longest_image (length s) (or_parts (ltb (length s) shortest_image) (ltb longest_image (length s)) e).1) h
 
 -- ---- the summary of an image
@@ -147,8 +147,8 @@ module _ (t : List ℕ) where
   summary-fits l = arm (refusal t) refl (rw (output-long t) at l)
     where
       arm : (o : Option Refusal) → refusal t ≡ o → summary_size + diagnostic_size * count_of (summary_by t o) < word_range → Fitting (summary_by t o)
-      arm none e l = record { refusal = omega arith; at = omega arith; errors = omega arith; warnings = omega arith }
-      arm (some r) e l = let v = refusal-small t r e in record { refusal = v.few; at = v.near; errors = omega arith; warnings = omega arith }
+      arm None e l = record { refusal = omega arith; at = omega arith; errors = omega arith; warnings = omega arith }
+      arm (Some r) e l = let v = refusal-small t r e in record { refusal = v.few; at = v.near; errors = omega arith; warnings = omega arith }
 
   -- it stands for the answer of a single call with the room that the image needs
   pub answer-single : answer_of (summary_of t) ≡ answer_alone t
@@ -156,5 +156,5 @@ module _ (t : List ℕ) where
   answer-single = arm (refusal t) refl
     where
       arm : (o : Option Refusal) → refusal t ≡ o → answer_of (summary_by t o) ≡ answer_for t (length t) (report_size (report_of t)) o
-      arm none e = rw (le-ltb (length t) (length t) (omega arith), le-ltb (report_size (report_of t)) (report_size (report_of t)) (omega arith))
-      arm (some r) e = rw (ne_eqb r.number 0 (refusal-small t r e).some)
+      arm None e = rw (le-ltb (length t) (length t) (omega arith), le-ltb (report_size (report_of t)) (report_size (report_of t)) (omega arith))
+      arm (Some r) e = rw (ne_eqb r.number 0 (refusal-small t r e).some)

@@ -4,7 +4,7 @@ use native.Mathlib.Omega.{arith}
 use mathlib.Core.Path.{◌≡◌, refl, sym, ap, ◌∙◌}
 use mathlib.Core.Bool.{Bool, true, false, cond}
 use mathlib.Core.List.{List, [], ◌∷◌, ◌++◌, map, append_assoc, append-nil}
-use mathlib.Core.Option.{Option, none, some}
+use Rattle.std.specs.Prelude.{Option, Some, None}
 use lib.Dec.{ltb}
 use lib.ListN.{length, take, drop, length-append}
 use lib.Seq.{get_or-drop, drop_at, drop-append_seam}
@@ -71,8 +71,8 @@ unfolding summary_of image_report answer_of printed
 printed-there t b f = arm (refusal t) refl
   where
     arm : (o : Option Refusal) → refusal t ≡ o → first_line (answer_of (summary_by t o)) ++ lines_from t (report_by t o ++ b) 0 (count_of (summary_by t o)) ≡ printed t (answer_of (summary_by t o))
-    arm none e = rw (errors-warnings (report_of t), lines-there (report_of t) t b (report_of-fits t f e))
-    arm (some r) e = rw (ne_eqb r.number 0 (refusal-small t r e).some, no_lines t b) (append-nil (first_line (answer.Refused r.number r.offset)))
+    arm None e = rw (errors-warnings (report_of t), lines-there (report_of t) t b (report_of-fits t f e))
+    arm (Some r) e = rw (ne_eqb r.number 0 (refusal-small t r e).some, no_lines t b) (append-nil (first_line (answer.Refused r.number r.offset)))
 
 -- what is printed of its part is its text
 pub image-whole : (i : ℕ) (t b : List ℕ) → ((k : ℕ) → byte t k < byte_range) → length (image_output t) < word_range → image_pieces i t (image_output t ++ b) ≡ image_text i t
@@ -85,21 +85,21 @@ image-whole i t b f l =
 -- ---- a batch that isn't refused
 
 module _ (s : List ℕ) (room n : ℕ) (h : batch_answer s room ≡ Written n) where
-  arm : (o : Option ℕ) → first_fault s ≡ o → batch_answer_for s room o ≡ Written n → (first_fault s ≡ none) × (n ≡ bytes_needed s)
+  arm : (o : Option ℕ) → first_fault s ≡ o → batch_answer_for s room o ≡ Written n → (first_fault s ≡ None) × (n ≡ bytes_needed s)
   unfolding answer_with
-  arm none e h = (e, fits (ltb room (bytes_needed s)) h)
+  arm None e h = (e, fits (ltb room (bytes_needed s)) h)
     where
       fits : (b : Bool) → cond b (Refused 12 (bytes_needed s)) (Written (bytes_needed s)) ≡ Written n → n ≡ bytes_needed s
       fits true h = let z : ◌≡◌ {A = ℕ} 0 1 = cc in absurd (omega arith)
       fits false h = cc
-  arm (some at) e h = let z : ◌≡◌ {A = ℕ} 0 1 = cc in absurd (omega arith)
+  arm (Some at) e h = let z : ◌≡◌ {A = ℕ} 0 1 = cc in absurd (omega arith)
 
-  parts : (first_fault s ≡ none) × (n ≡ bytes_needed s)
+  parts : (first_fault s ≡ None) × (n ≡ bytes_needed s)
   unfolding batch_answer
   parts = arm (first_fault s) refl h
 
   -- none of its fields is at fault, and the bytes written are those needed
-  pub written-faultless : first_fault s ≡ none
+  pub written-faultless : first_fault s ≡ None
   written-faultless = parts.0
 
   pub written-needed : n ≡ bytes_needed s

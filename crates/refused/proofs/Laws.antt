@@ -5,7 +5,7 @@ use native.Mathlib.Omega.{arith}
 use mathlib.Core.Path.{◌≡◌, refl, sym, ap, ◌∙◌}
 use mathlib.Core.Bool.{false}
 use mathlib.Core.List.{List, [], ◌∷◌, ◌++◌, append_assoc}
-use mathlib.Core.Option.{none, some}
+use Rattle.std.specs.Prelude.{Some, None}
 use lib.ListN.{length, length-append, length-replicate, replicate}
 use lib.Dec.{eqb, ltb}
 use borrow.Author.Tests.{le-leb, lt-leb, lt-ltb, le-ltb, eq-eqb}
@@ -22,7 +22,7 @@ use Rattle.refused.specs.Refused.{repeated, fewest, crowded, beyond}
 
 -- ---- refusal 1
 
-pub too_long : (s : List ℕ) → longest_image < length s → refusal s ≡ some (record { number = 1; offset = 0 })
+pub too_long : (s : List ℕ) → longest_image < length s → refusal s ≡ Some (record { number = 1; offset = 0 })
 unfolding refusal
 too_long s h =
     let short : ltb (length s) shortest_image ≡ false = le-ltb (length s) shortest_image (omega arith) in
@@ -58,14 +58,14 @@ module _ {t len : ℕ} {r : List ℕ} (is : IsField t len r) where
   repeated-length (suc n) = length-append r (repeated n r) ∙ (let e = is.long in let i = repeated-length n in rw (e, i, mul-suc (leading_bytes + len) n) (omega arith))
 
   -- no bad tag: they don't fall
-  tags-good : tag_is_bad t t ≡ false → (n at o : ℕ) → first bad_tag (rows t len n at t o) ≡ none
+  tags-good : tag_is_bad t t ≡ false → (n at o : ℕ) → first bad_tag (rows t len n at t o) ≡ None
   unfolding rows first bad_tag
   tags-good h zero at o = refl
   tags-good h (suc n) at o = rw h (tags-good h n (at + leading_bytes + len) (suc o))
 
   -- no bad length
   module _ (good : (pre rest : List ℕ) (prev o : ℕ) → bad_length (pre ++ (r ++ rest)) (row t len (length pre) prev o) ≡ false) where
-    lengths-good : (n : ℕ) (pre s : List ℕ) (prev o : ℕ) → s ≡ pre ++ repeated n r → first (bad_length s) (rows t len n (length pre) prev o) ≡ none
+    lengths-good : (n : ℕ) (pre s : List ℕ) (prev o : ℕ) → s ≡ pre ++ repeated n r → first (bad_length s) (rows t len n (length pre) prev o) ≡ None
     unfolding rows repeated first
     lengths-good zero pre s prev o e = refl
     lengths-good (suc n) pre s prev o e =
@@ -73,7 +73,7 @@ module _ {t len : ℕ} {r : List ℕ} (is : IsField t len r) where
         ∙ rw (long-at is pre []) at (lengths-good n (pre ++ r) s t (suc o) (rw (append_assoc pre r (repeated n r)) e))
 
   -- the first beyond the most
-  first-beyond : (d at prev o : ℕ) → o + d ≡ most t → first too_many (rows t len (suc d) at prev o) ≡ some (at + (leading_bytes + len) * d)
+  first-beyond : (d at prev o : ℕ) → o + d ≡ most t → first too_many (rows t len (suc d) at prev o) ≡ Some (at + (leading_bytes + len) * d)
   unfolding rows too_many
   first-beyond zero at prev o h =
       let l : most t ≤ o = omega arith in
@@ -126,19 +126,19 @@ module _ {t len : ℕ} {r : List ℕ} (is : IsField t len r) (good : (pre rest :
       go (suc k) h = stop_step head-is [] many k ∙ stop-rows is (suc (most t)) k head_field (enough k h)
 
   module _ (n : ℕ) where
-    no-3 : first (fault 3 n all) those ≡ none
+    no-3 : first (fault 3 n all) those ≡ None
     unfolding fault first rows bad_tag tag_is_bad
     no-3 = rw behind_head (tags-good is behind_own (most t) (length head_field + leading_bytes + len) 1)
 
-    no-4 : first (fault 4 n all) those ≡ none
+    no-4 : first (fault 4 n all) those ≡ None
     unfolding fault bad_length fixed_length
     no-4 = first-later (bad_length all) (row head_tag head_length 0 0 0) _ refl ∙ lengths-good is good (suc (most t)) head_field all head_tag 0 refl
 
-    is-5 : first (fault 5 n all) those ≡ some (shortest_image + (leading_bytes + len) * most t)
+    is-5 : first (fault 5 n all) those ≡ Some (shortest_image + (leading_bytes + len) * most t)
     unfolding fault too_many most
     is-5 = first-later too_many (row head_tag head_length 0 0 0) _ refl ∙ first-beyond is (most t) (length head_field) head_tag 0 (zero-add (most t)) ∙ rw head-is.long
 
-  pub one-too-many : refusal all ≡ some (record { number = 5; offset = shortest_image + (leading_bytes + len) * most t })
+  pub one-too-many : refusal all ≡ Some (record { number = 5; offset = shortest_image + (leading_bytes + len) * most t })
   unfolding refusal refusals_from
   one-too-many =
       let n = length (of_tag text_tag those) in
@@ -165,7 +165,7 @@ block-good pre rest prev o = rw (le-append-right 2 pre (zeros block_tag block_le
     ports = refl
 
 -- refusal 5, at the first record beyond
-pub too-many : (t : ℕ) → text_tag ≤ t → t ≤ highest_tag → refusal (crowded t) ≡ some (record { number = 5; offset = beyond t })
+pub too-many : (t : ℕ) → text_tag ≤ t → t ≤ highest_tag → refusal (crowded t) ≡ Some (record { number = 5; offset = beyond t })
 unfolding crowded beyond fewest most fixed_length bad_length tag_is_bad
 too-many zero l h = absurd (omega arith)
 too-many (suc zero) l h = absurd (omega arith)

@@ -5,7 +5,7 @@ use mathlib.Core.Path.{◌≡◌, refl, sym, ap, ◌∙◌}
 use mathlib.Core.Logic.{◌≢◌}
 use mathlib.Core.Bool.{Bool, true, false, cond}
 use mathlib.Core.List.{List, [], ◌++◌}
-use mathlib.Core.Option.{Option, none, some}
+use Rattle.std.specs.Prelude.{Option, Some, None}
 use lib.Dec.{eqb}
 use lib.ListN.{length, take, drop, length-append}
 use lib.Seq.{take-append_seam}
@@ -84,8 +84,8 @@ module _ (s xs : List ℕ) (kind n : ℕ) {r : List ℕ} where
 -- ---- whether the image is refused
 
 away : (s : List ℕ) (o : Option Refusal) (n at : ℕ) (bs : List ℕ) → Refused n at ≡ accepts s o → unless_refused o bs ≡ []
-away s none n at bs h = let z : ◌≡◌ {A = ℕ} 0 1 = cc in absurd (omega arith)
-away s (some r) n at bs h = refl
+away s None n at bs h = let z : ◌≡◌ {A = ℕ} 0 1 = cc in absurd (omega arith)
+away s (Some r) n at bs h = refl
 
 module _ (s xs : List ℕ) (kind n : ℕ) {a : Acceptance} (e : a ≡ acceptance s) where
   refused : {m at : ℕ} (bs : List ℕ) → a ≡ Refused m at → unless_refused (refusal s) bs ≡ []
@@ -147,7 +147,7 @@ module _ (s xs : List ℕ) (kind n : ℕ) (h : least_scratch ≤ length xs) wher
       let l : length (starts_with bs xs) ≡ length xs = starts_with-length bs xs (omega (arith, labelled-few kind n)) in
       room (starts_with bs xs) bs (omega arith)
 
-  after : refusal s ≡ none → scratch_after s kind n xs ≡ starts_with bs xs
+  after : refusal s ≡ None → scratch_after s kind n xs ≡ starts_with bs xs
   unfolding scratch_after written bs
   after e = rw (e, room xs bs h)
 
@@ -157,8 +157,8 @@ module _ (s xs : List ℕ) (kind n : ℕ) (h : least_scratch ≤ length xs) wher
 
   by-refusal : (o : Option Refusal) → refusal s ≡ o → part s (scratch_after s kind n xs) kind n ≡ subject_text s kind n
   unfolding part part_of subject_text bs
-  by-refusal none e = rw (after e, e) (choose (eqb kind text_subject_kind))
-  by-refusal (some r) e = rw e
+  by-refusal None e = rw (after e, e) (choose (eqb kind text_subject_kind))
+  by-refusal (Some r) e = rw e
 
   -- a subject's text is read where it was written, in a scratch that has room
   pub read-written : part s (scratch_after s kind n xs) kind n ≡ subject_text s kind n

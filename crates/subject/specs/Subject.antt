@@ -1,7 +1,7 @@
 -- A subject's text, FORMAT 8: a part of the image, or of the caller's scratch for `connector#` and `block#`. A subject is given by its kind and number, as a diagnostic's
 -- bytes have them.
 use Rattle.std.specs.Prelude.{ℕ, cond, List, [], ◌∷◌, ◌++◌, eqb, ltb, length, take}
-use Rattle.std.proofs.Math.Option.{Option, none, some}
+use Rattle.std.specs.Prelude.{Option, Some, None}
 use Rattle.base.specs.Buffers.{starts_with}
 use Rattle.oce_model.specs.Model.{model_of, text}
 use Rattle.oce_model.specs.Refusals.{Refusal, refusal}
@@ -23,8 +23,8 @@ labelled kind number =
 
 -- an image that refusals 1 to 8 turn away gives none
 abbrev pub unless_refused : Option Refusal → List ℕ → List ℕ
-unless_refused none bs = bs
-unless_refused (some r) bs = []
+unless_refused None bs = bs
+unless_refused (Some r) bs = []
 
 -- the text of a subject: a text's bytes in the image, or a label and an id; none for no subject, for another kind and for a text number out of range
 unfoldable pub subject_text : List ℕ → ℕ → ℕ → List ℕ

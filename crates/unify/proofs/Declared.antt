@@ -3,7 +3,8 @@ use Prim.Native.Nat.{ℕ, ◌<◌}
 use mathlib.Core.Path.{◌≡◌, refl, sym, ap, ◌∙◌}
 use mathlib.Core.Logic.{◌≢◌}
 use mathlib.Core.Bool.{Bool, true, false, cond}
-use mathlib.Core.Option.{Option, none, some, some-ne-none}
+use Rattle.std.specs.Prelude.{Option, Some, None}
+use Rattle.base.proofs.Options.{some-ne-none}
 use lib.ListN.{length}
 use lib.Seq.{get_or-set_same, get_or-set_other}
 use lib.Dec.{eqb}
@@ -18,19 +19,19 @@ use Rattle.unify.specs.declared.Detail.{Detail}
 use Rattle.unify.proofs.Fixed.{put-kind}
 
 -- where nothing is declared, the bit is clear
-pub unmarked : (a : Attrs) (p : ℕ) → declared_at a p ≡ none → bit a.marks p ≡ false
+pub unmarked : (a : Attrs) (p : ℕ) → declared_at a p ≡ None → bit a.marks p ≡ false
 unfolding declared_at
 unmarked a p h = arm (bit a.marks p) h
   where
-    arm : (b : Bool) → marked b (num a p) ≡ none → b ≡ false
+    arm : (b : Bool) → marked b (num a p) ≡ None → b ≡ false
     arm true h = absurd (some-ne-none (num a p) h)
     arm false h = refl
 
-pub declare_at-same : (a : Attrs) (p v : ℕ) → declared_at a p ≡ none → p < length a.nums → declared_at (declare_at a p v) p ≡ some v
+pub declare_at-same : (a : Attrs) (p v : ℕ) → declared_at a p ≡ None → p < length a.nums → declared_at (declare_at a p v) p ≡ Some v
 unfolding declared_at declare_at
-declare_at-same a p v h l = rw (bit-same a.marks p (unmarked a p h)) (ap {B = Option ℕ} some (get_or-set_same a.nums p v 0 l))
+declare_at-same a p v h l = rw (bit-same a.marks p (unmarked a p h)) (ap {B = Option ℕ} Some (get_or-set_same a.nums p v 0 l))
 
-pub declare_at-other : (a : Attrs) (p q v : ℕ) → declared_at a p ≡ none → q ≢ p → declared_at (declare_at a p v) q ≡ declared_at a q
+pub declare_at-other : (a : Attrs) (p q v : ℕ) → declared_at a p ≡ None → q ≢ p → declared_at (declare_at a p v) q ≡ declared_at a q
 unfolding declared_at declare_at
 declare_at-other a p q v h n = rw (bit-other a.marks p q (unmarked a p h) n, get_or-set_other a.nums p q v 0 n)
 
@@ -45,8 +46,8 @@ put-declared_at e v a p n = arm (eqb a.kind (kind_of e)) refl (declared_at a (bi
   where
     arm : (b : Bool) → eqb a.kind (kind_of e) ≡ b → (o : Option ℕ) → declared_at a (bit_of e) ≡ o → declared_at (cond b (put_at (bit_of e) v a o) a) p ≡ declared_at a p
     arm false h o q = refl
-    arm true h (some u) q = refl
-    arm true h none q = declare_at-other a (bit_of e) p v q (n (eqb-true _ _ h))
+    arm true h (Some u) q = refl
+    arm true h None q = declare_at-other a (bit_of e) p v q (n (eqb-true _ _ h))
 
 pub value-put : (d e : Detail) (v : ℕ) → (kind_of d ≡ kind_of e → bit_of d ≢ bit_of e) → (a : Attrs) → value d (put e v a) ≡ value d a
 unfolding value put
@@ -55,6 +56,6 @@ value-put d e v n a = rw (put-kind e v a) (arm (eqb a.kind (kind_of d)) refl)
     at : ℕ
     at = bit_of d
 
-    arm : (b : Bool) → eqb a.kind (kind_of d) ≡ b → cond b (declared_at (put e v a) at) none ≡ cond b (declared_at a at) none
+    arm : (b : Bool) → eqb a.kind (kind_of d) ≡ b → cond b (declared_at (put e v a) at) None ≡ cond b (declared_at a at) None
     arm false h = refl
     arm true h = put-declared_at e v a at (λ k. n (sym (eqb-true _ _ h) ∙ k))

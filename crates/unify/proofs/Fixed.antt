@@ -5,7 +5,7 @@ use native.Mathlib.Omega.{arith}
 use mathlib.Core.Path.{◌≡◌, refl, ap, ◌∙◌}
 use mathlib.Core.Bool.{Bool, true, false, cond}
 use mathlib.Core.List.{List, [], ◌∷◌, Memᴰ}
-use mathlib.Core.Option.{Option, none, some}
+use Rattle.std.specs.Prelude.{Option, Some, None}
 use lib.ListN.{length, length-set, get_or, set}
 use lib.Seq.{get_or-set_same, get_or-set_other, set_out}
 use lib.Dec.{eqb}
@@ -83,8 +83,8 @@ put-kind d v a = arm (eqb a.kind (kind_of d)) (declared_at a (bit_of d))
   where
     arm : (b : Bool) (o : Option ℕ) → (cond b (put_at (bit_of d) v a o) a).kind ≡ a.kind
     arm false o = refl
-    arm true none = refl
-    arm true (some u) = refl
+    arm true None = refl
+    arm true (Some u) = refl
 
 pub put-room : (d : Detail) (v : ℕ) (a : Attrs) → length (put d v a).nums ≡ length a.nums
 unfolding put declare_at
@@ -92,5 +92,5 @@ put-room d v a = arm (eqb a.kind (kind_of d)) (declared_at a (bit_of d))
   where
     arm : (b : Bool) (o : Option ℕ) → length (cond b (put_at (bit_of d) v a o) a).nums ≡ length a.nums
     arm false o = refl
-    arm true none = length-set a.nums (bit_of d) v
-    arm true (some u) = refl
+    arm true None = length-set a.nums (bit_of d) v
+    arm true (Some u) = refl

@@ -1,6 +1,6 @@
 -- Rule 6, `unify_clusters`: FORMAT 16; Standard 231, §7.10.
 use Rattle.std.specs.Prelude.{ℕ, Bool, false, cond, not, ◌&&◌, ◌||◌, List, [], ◌∷◌, ◌++◌, set}
-use Rattle.std.proofs.Math.Option.{Option, none, some}
+use Rattle.std.specs.Prelude.{Option, Some, None}
 use Rattle.base.specs.Lists.{each, steps, all, only}
 use Rattle.oce_model.specs.Model.{Model, connector, connector_count}
 use Rattle.oce_diag.specs.Diagnostics.{subject_of, error, warning, has_error}
@@ -18,8 +18,8 @@ use Rattle.unify.specs.declared.Detail.TheVariants.{DisplayUnit}
 
 -- The values that the members declare, in their order: `declared`.
 abbrev pub cons? : Option ℕ → List ℕ → List ℕ
-cons? none l = l
-cons? (some v) l = v ∷ l
+cons? None l = l
+cons? (Some v) l = v ∷ l
 
 unfoldable pub declarations : Detail → Slots → List ℕ → List ℕ
 declarations d σ [] = []

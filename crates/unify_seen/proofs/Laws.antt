@@ -6,7 +6,7 @@ use native.Mathlib.Omega.{arith}
 use mathlib.Core.Path.{◌≡◌, refl, sym, ap, ◌∙◌}
 use mathlib.Core.Bool.{Bool, true, false, cond, ◌&&◌, false≢true}
 use mathlib.Core.List.{List, [], ◌∷◌}
-use mathlib.Core.Option.{none}
+use Rattle.std.specs.Prelude.{None}
 use lib.Bits.{bit_or, or_shr, or_mod}
 use lib.Dec.{eqb}
 use lib.ListN.{length, get_or}
@@ -94,15 +94,15 @@ module _ (d : Detail) (real integer : ℕ) {k p : ℕ} {r : Bool} (ek : k ≡ ki
   shows-integer er n = er ∙ rw (ne_eqb (kind_of d) real_kind (λ e. n (ek ∙ e)), ep)
 
 -- attributes of the kind that don't have the bit set declare nothing
-value-unmarked : (d : Detail) (a : Attrs) → (a.kind ≡ kind_of d → bit a.marks (bit_of d) ≡ false) → value d a ≡ none
+value-unmarked : (d : Detail) (a : Attrs) → (a.kind ≡ kind_of d → bit a.marks (bit_of d) ≡ false) → value d a ≡ None
 unfolding value declared_at
 value-unmarked d a h = arm (eqb a.kind (kind_of d)) refl
   where
-    arm : (b : Bool) → eqb a.kind (kind_of d) ≡ b → cond b (marked (bit a.marks (bit_of d)) (num a (bit_of d))) none ≡ none
+    arm : (b : Bool) → eqb a.kind (kind_of d) ≡ b → cond b (marked (bit a.marks (bit_of d)) (num a (bit_of d))) None ≡ None
     arm true e = rw (h (eqb-true _ _ e))
     arm false e = refl
 
-none-declared : (d : Detail) (σ : Slots) (js : List ℕ) → ((i : ℕ) → i < length js → value d (slot σ (get_or js i 0)) ≡ none) → declarations d σ js ≡ []
+none-declared : (d : Detail) (σ : Slots) (js : List ℕ) → ((i : ℕ) → i < length js → value d (slot σ (get_or js i 0)) ≡ None) → declarations d σ js ≡ []
 unfolding declarations
 none-declared d σ [] h = refl
 none-declared d σ (j ∷ js) h = rw (h 0 (omega arith)) (none-declared d σ js (λ i l. h (suc i) (omega arith)))

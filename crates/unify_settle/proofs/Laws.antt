@@ -5,7 +5,7 @@ use native.Mathlib.Omega.{arith}
 use mathlib.Core.Path.{◌≡◌, refl, sym, ◌∙◌}
 use mathlib.Core.Bool.{Bool, true, false, cond, not, ◌&&◌}
 use mathlib.Core.List.{List, [], ◌∷◌}
-use mathlib.Core.Option.{Option, none, some}
+use Rattle.std.specs.Prelude.{Option, Some, None}
 use lib.ListN.{length, get_or, set, drop, drop_of_length-le}
 use lib.Seq.{drop-cons}
 use lib.Dec.{eqb}
@@ -95,8 +95,8 @@ all_one f v = arm (f v)
 
 all_cons : (f : ℕ → Bool) (o : Option ℕ) (l : List ℕ) → all f (cons? o l) ≡ (all f (cons? o []) && all f l)
 unfolding all
-all_cons f none l = refl
-all_cons f (some v) l = arm (f v)
+all_cons f None l = refl
+all_cons f (Some v) l = arm (f v)
   where
     arm : (b : Bool) → (b && all f l) ≡ ((b && true) && all f l)
     arm true = refl

@@ -3,7 +3,7 @@ use mathlib.Core.Path.{◌≡◌, refl, sym, ap, ◌∙◌}
 use mathlib.Core.Logic.{◌≢◌}
 use mathlib.Core.Bool.{Bool, true, false, cond}
 use mathlib.Core.List.{List, [], ◌∷◌, ◌++◌}
-use mathlib.Core.Option.{none}
+use Rattle.std.specs.Prelude.{None}
 use Prim.Native.Nat.{ℕ, ◌+◌, ◌*◌, ◌^◌, ◌<◌}
 use native.Mathlib.Omega.{arith}
 use lib.Dec.{eqb}
@@ -59,7 +59,7 @@ unfolding int_attrs
 int-parts a em ex ef ey eg = rw (em, ef, ex, eg, ey)
 
 -- what attributes declare for a detail: nothing where they are of another kind or its bit isn't set, else the number under the bit
-value-other : (d : Detail) (a : Attrs) → eqb a.kind (kind_of d) ≡ false → value d a ≡ none
+value-other : (d : Detail) (a : Attrs) → eqb a.kind (kind_of d) ≡ false → value d a ≡ None
 unfolding value
 value-other d a e = rw e
 
