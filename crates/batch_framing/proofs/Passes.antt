@@ -15,7 +15,7 @@ use Rattle.base.proofs.Members.{get_or-map}
 use Rattle.numbers.specs.Bytes.{byte}
 use Rattle.oce_model.specs.Image.{field_at, fields, first}
 use Rattle.oce_model.specs.declared.Field.{Field}
-use Rattle.oce_model.proofs.Fields.{None, none_of, first-later}
+use Rattle.oce_model.proofs.Fields.{NonePass, none_of, first-later}
 use Rattle.image_framing.specs.Walk.{after, end_of, placed, start}
 use Rattle.image_framing.proofs.Walks.{Step, walk_end, walk-fits, walk_start, walk_step}
 use Rattle.batch.specs.Fields.{image_tag, most_images, bad_field, image_in, images}
@@ -34,8 +34,8 @@ good-few f h = leb-false most_images f.ord (or_parts (not (eqb f.tag image_tag))
 good-first : (f : Field) (l : List Field) → first bad_field (f ∷ l) ≡ None → bad_field f ≡ false
 good-first f l h = arm (none_of bad_field (f ∷ l) h)
   where
-    arm : None bad_field (f ∷ l) → bad_field f ≡ false
-    arm (None.and e n) = e
+    arm : NonePass bad_field (f ∷ l) → bad_field f ≡ false
+    arm (NonePass.and e n) = e
 
 -- behind a field with the same tag stands one more
 ord-next : (s : List ℕ) (f : Field) → f.tag ≡ (after s f).tag → (after s f).ord ≡ f.ord + 1

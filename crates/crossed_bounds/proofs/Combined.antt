@@ -1,4 +1,5 @@
 -- The combined range of several members holds exactly the values that lie in every member's range; it is there exactly if all have an uncrossed range and one kind.
+use Rattle.std.specs.Prelude.{None, Some}
 use Prim.Native.Nat.{ℕ}
 use mathlib.Core.Path.{◌≡◌, refl, sym, ap₂, ◌∙◌}
 use mathlib.Core.Bool.{Bool, true, false, cond, ◌&&◌, and-true, and-false, and_self}
@@ -18,12 +19,10 @@ use Rattle.oce_model.specs.Format.{real_kind, integer_kind}
 use Rattle.crossed_bounds.specs.Ranges.{crossed_bounds, higher, lower, higher_integer, lower_integer, intersect, uncrossed, take_in, take_in_all, combined}
 use Rattle.crossed_bounds.specs.Values.{Datum, real, integer, boolean, string, enum, of_kind, not_below, not_above, inside_bounds, inside}
 use Rattle.crossed_bounds.specs.Counts.{bounds_kind, plain, inside_all}
-use Rattle.crossed_bounds.specs.declared.End.{End}
-use Rattle.crossed_bounds.specs.declared.End.TheVariants.{None, Value}
+use Rattle.crossed_bounds.specs.Ends.{End}
 use Rattle.crossed_bounds.specs.declared.Bounds.{Bounds}
 use Rattle.crossed_bounds.specs.declared.Bounds.TheVariants.{Real, Integer}
-use Rattle.crossed_bounds.specs.declared.Range.{Range}
-use Rattle.crossed_bounds.specs.declared.Range.TheVariants.{Absent, Within}
+use Rattle.crossed_bounds.specs.Ends.{Range}
 
 -- ---- one member more, from what is kept and that member
 
@@ -40,15 +39,15 @@ combined-more q rs r = take_in_all-more (uncrossed q) rs r
 
 unfoldable pub good_end : End → Bool
 good_end None = true
-good_end (Value a) = of_kind real_kind (real a)
+good_end (Some a) = of_kind real_kind (real a)
 
 unfoldable pub good_bounds : Bounds → Bool
 good_bounds (Real lo hi) = good_end lo && good_end hi
 good_bounds (Integer lo hi) = of_kind integer_kind (integer lo) && of_kind integer_kind (integer hi)
 
 unfoldable pub good : Range → Bool
-good Absent = true
-good (Within b) = good_bounds b
+good None = true
+good (Some b) = good_bounds b
 
 -- ---- Bool
 
@@ -110,26 +109,26 @@ real-finite k x h = (and_parts (eqb k real_kind) (finite x) (and_parts (eqb k re
 higher-inside : (a b : End) (x : Float) → good_end a ≡ true → good_end b ≡ true → finite x ≡ true → not_below (higher a b) x ≡ (not_below a x && not_below b x)
 unfolding good_end higher not_below
 higher-inside None b x A B C = refl
-higher-inside (Value a) None x A B C = sym (and-true (le a x))
-higher-inside (Value a) (Value b) x A B C = tighter reals a b x (real-finite real_kind a A) (real-finite real_kind b B) C
+higher-inside (Some a) None x A B C = sym (and-true (le a x))
+higher-inside (Some a) (Some b) x A B C = tighter reals a b x (real-finite real_kind a A) (real-finite real_kind b B) C
 
 lower-inside : (a b : End) (x : Float) → good_end a ≡ true → good_end b ≡ true → finite x ≡ true → not_above (lower a b) x ≡ (not_above a x && not_above b x)
 unfolding good_end lower not_above
 lower-inside None b x A B C = refl
-lower-inside (Value a) None x A B C = sym (and-true (le x a))
-lower-inside (Value a) (Value b) x A B C = tighter (flip reals) a b x (real-finite real_kind a A) (real-finite real_kind b B) C
+lower-inside (Some a) None x A B C = sym (and-true (le x a))
+lower-inside (Some a) (Some b) x A B C = tighter (flip reals) a b x (real-finite real_kind a A) (real-finite real_kind b B) C
 
 higher-good : (a b : End) → good_end a ≡ true → good_end b ≡ true → good_end (higher a b) ≡ true
 unfolding good_end higher
 higher-good None b A B = B
-higher-good (Value a) None A B = A
-higher-good (Value a) (Value b) A B = pick (λ x. of_kind real_kind (real x)) (lt a b) a b A B
+higher-good (Some a) None A B = A
+higher-good (Some a) (Some b) A B = pick (λ x. of_kind real_kind (real x)) (lt a b) a b A B
 
 lower-good : (a b : End) → good_end a ≡ true → good_end b ≡ true → good_end (lower a b) ≡ true
 unfolding good_end lower
 lower-good None b A B = B
-lower-good (Value a) None A B = A
-lower-good (Value a) (Value b) A B = pick (λ x. of_kind real_kind (real x)) (lt b a) a b A B
+lower-good (Some a) None A B = A
+lower-good (Some a) (Some b) A B = pick (λ x. of_kind real_kind (real x)) (lt b a) a b A B
 
 -- ---- what a list of members leaves: nothing, if not all have an uncrossed range and one kind; else the range of that kind which holds what all hold
 
@@ -139,20 +138,20 @@ pub record Holds (rs : List Range) (b : Bounds) : Type 0 where
   pub holds : (k : ℕ) (v : Datum) → of_kind k v ≡ true → inside_bounds b v ≡ inside_all v rs
 
 abbrev pub Leaves : List Range → Range → Type 0
-Leaves rs Absent = (k : ℕ) → all (plain k) rs ≡ false
-Leaves rs (Within b) = Holds rs b
+Leaves rs None = (k : ℕ) → all (plain k) rs ≡ false
+Leaves rs (Some b) = Holds rs b
 
 -- the ranges before, and an uncrossed one more
 module _ (rs : List Range) (b c : Bounds) (H : Holds rs b) (u : crossed_bounds c ≡ false) where
-  kind-more : (k : ℕ) → all (plain k) (rs ++ (Within c ∷ [])) ≡ (eqb (bounds_kind b) k && eqb (bounds_kind c) k)
+  kind-more : (k : ℕ) → all (plain k) (rs ++ (Some c ∷ [])) ≡ (eqb (bounds_kind b) k && eqb (bounds_kind c) k)
   unfolding all plain
-  kind-more k = all_append (plain k) rs (Within c ∷ []) ∙ rw (H.kind k, u, and-true (eqb (bounds_kind c) k), and-true (eqb (bounds_kind c) k))
+  kind-more k = all_append (plain k) rs (Some c ∷ []) ∙ rw (H.kind k, u, and-true (eqb (bounds_kind c) k), and-true (eqb (bounds_kind c) k))
 
-  inside-more : (k : ℕ) (v : Datum) → of_kind k v ≡ true → inside_all v (rs ++ (Within c ∷ [])) ≡ (inside_bounds b v && inside_bounds c v)
+  inside-more : (k : ℕ) (v : Datum) → of_kind k v ≡ true → inside_all v (rs ++ (Some c ∷ [])) ≡ (inside_bounds b v && inside_bounds c v)
   unfolding inside_all all inside
-  inside-more k v h = all_append (λ r. inside r v) rs (Within c ∷ []) ∙ ap₂ ◌&&◌ (sym (H.holds k v h)) (and-true (inside_bounds c v))
+  inside-more k v h = all_append (λ r. inside r v) rs (Some c ∷ []) ∙ ap₂ ◌&&◌ (sym (H.holds k v h)) (and-true (inside_bounds c v))
 
-intersect-leaves : (rs : List Range) (b c : Bounds) → Holds rs b → good_bounds c ≡ true → crossed_bounds c ≡ false → Leaves (rs ++ (Within c ∷ [])) (intersect b c)
+intersect-leaves : (rs : List Range) (b c : Bounds) → Holds rs b → good_bounds c ≡ true → crossed_bounds c ≡ false → Leaves (rs ++ (Some c ∷ [])) (intersect b c)
 unfolding good_bounds intersect inside_bounds higher_integer lower_integer
 intersect-leaves rs (Real p q) (Real s t) H g u =
     let A = and_parts (good_end p) (good_end q) H.good in
@@ -198,18 +197,18 @@ none_more : (rs : List Range) (r : Range) → ((k : ℕ) → plain k r ≡ false
 unfolding all
 none_more rs r n k = all_append (plain k) rs (r ∷ []) ∙ rw (n k) (and-false (all (plain k) rs))
 
-crossed-plain : (b : Bounds) → crossed_bounds b ≡ true → (k : ℕ) → plain k (Within b) ≡ false
+crossed-plain : (b : Bounds) → crossed_bounds b ≡ true → (k : ℕ) → plain k (Some b) ≡ false
 unfolding plain
 crossed-plain b h k = rw h (and-false (eqb (bounds_kind b) k))
 
 take_in-leaves : (rs : List Range) (p r : Range) → Leaves rs p → good r ≡ true → Leaves (rs ++ (r ∷ [])) (take_in p r)
 unfolding take_in uncrossed good plain
-take_in-leaves rs Absent r H g = λ k. all_append (plain k) rs (r ∷ []) ∙ rw (H k)
-take_in-leaves rs (Within b) Absent H g = none_more rs Absent (λ k. refl)
-take_in-leaves rs (Within b) (Within c) H g = arm (crossed_bounds c) refl
+take_in-leaves rs None r H g = λ k. all_append (plain k) rs (r ∷ []) ∙ rw (H k)
+take_in-leaves rs (Some b) None H g = none_more rs None (λ k. refl)
+take_in-leaves rs (Some b) (Some c) H g = arm (crossed_bounds c) refl
   where
-    arm : (t : Bool) → crossed_bounds c ≡ t → Leaves (rs ++ (Within c ∷ [])) (take_in (Within b) (Within c))
-    arm true h = rw h (none_more rs (Within c) (crossed-plain c h))
+    arm : (t : Bool) → crossed_bounds c ≡ t → Leaves (rs ++ (Some c ∷ [])) (take_in (Some b) (Some c))
+    arm true h = rw h (none_more rs (Some c) (crossed-plain c h))
     arm false h = rw h (intersect-leaves rs b c H g h)
 
 take_in_all-leaves : (qs : List Range) (p : Range) (rs : List Range) → Leaves qs p → all good rs ≡ true → Leaves (qs ++ rs) (take_in_all p rs)
@@ -221,10 +220,10 @@ take_in_all-leaves qs p (r ∷ rs) H g =
 
 first-leaves : (r : Range) → good r ≡ true → Leaves (r ∷ []) (uncrossed r)
 unfolding uncrossed good all plain inside_all inside
-first-leaves Absent g = λ k. refl
-first-leaves (Within b) g = arm (crossed_bounds b) refl
+first-leaves None g = λ k. refl
+first-leaves (Some b) g = arm (crossed_bounds b) refl
   where
-    arm : (t : Bool) → crossed_bounds b ≡ t → Leaves (Within b ∷ []) (uncrossed (Within b))
+    arm : (t : Bool) → crossed_bounds b ≡ t → Leaves (Some b ∷ []) (uncrossed (Some b))
     arm true h = rw h (λ k. rw (crossed-plain b h k))
     arm false h = rw h (record {
       good = g;

@@ -30,8 +30,7 @@ use Rattle.crossed_bounds.specs.Groups.{Group, members}
 use Rattle.crossed_bounds.specs.CrossedBounds.{member_iri, member_attrs, member_external, group_faults, member_ranges, shared}
 use Rattle.crossed_bounds.specs.Counts.{one_kind, counts, Common, NoCommon}
 use Rattle.crossed_bounds.specs.declared.Bounds.TheVariants.{Real}
-use Rattle.crossed_bounds.specs.declared.Range.{Range}
-use Rattle.crossed_bounds.specs.declared.Range.TheVariants.{Absent, Within}
+use Rattle.crossed_bounds.specs.Ends.{Range}
 use Rattle.crossed_bounds.proofs.Combined.{both, good_end, good_bounds, good}
 use Rattle.crossed_bounds.proofs.Meaning.{not-one-kind, none_or_some, crossed-if-none, uncrossed-if-some}
 
@@ -68,7 +67,7 @@ real-good : (lo hi : Option ℕ) → good (real_range lo hi) ≡ true
 unfolding real_range good good_bounds
 real-good lo hi = arm (finite_end lo && finite_end hi) refl
   where
-    arm : (t : Bool) → (finite_end lo && finite_end hi) ≡ t → good (cond t (Within (Real (real_end lo) (real_end hi))) Absent) ≡ true
+    arm : (t : Bool) → (finite_end lo && finite_end hi) ≡ t → good (cond t (Some (Real (real_end lo) (real_end hi))) None) ≡ true
     arm true h =
         let p = and_parts (finite_end lo) (finite_end hi) h in
         both (good_end (real_end lo)) (good_end (real_end hi)) (end-good lo p.0) (end-good hi p.1)
@@ -89,7 +88,7 @@ module _ (m : Model) (least : fits64 m.defaults.min ≡ true) (greatest : fits64
   range-good a = arm (eqb a.kind real_kind) (eqb a.kind integer_kind)
     where
       arm : (s t : Bool)
-          → good (cond s (real_range (declared_at a min_bit) (declared_at a max_bit)) (cond t (integer_range m.defaults (declared_at a min_bit) (declared_at a max_bit)) Absent)) ≡ true
+          → good (cond s (real_range (declared_at a min_bit) (declared_at a max_bit)) (cond t (integer_range m.defaults (declared_at a min_bit) (declared_at a max_bit)) None)) ≡ true
       arm true t = real-good (declared_at a min_bit) (declared_at a max_bit)
       arm false true = integer-good (declared_at a min_bit) (declared_at a max_bit)
       arm false false = refl

@@ -1,4 +1,5 @@
 -- What rule 5.4's combined range says: of ranges whose ends are numbers of their kind it is crossed exactly if all are uncrossed, of one kind, and no value lies in every range.
+use Rattle.std.specs.Prelude.{None, Some}
 use Prim.Native.Nat.{ℕ}
 use mathlib.Core.Path.{◌≡◌, refl, sym, ◌∙◌}
 use mathlib.Core.Bool.{Bool, true, false, ◌&&◌, ◌||◌, false≢true, true≢false}
@@ -17,11 +18,9 @@ use Rattle.oce_model.specs.Format.{real_kind, integer_kind}
 use Rattle.crossed_bounds.specs.Ranges.{crossed_ends, crossed_bounds, crossed, combined}
 use Rattle.crossed_bounds.specs.Values.{Datum, real, integer, boolean, string, enum, of_kind, not_below, not_above, inside_bounds}
 use Rattle.crossed_bounds.specs.Counts.{bounds_kind, plain, one_kind, Common, NoCommon}
-use Rattle.crossed_bounds.specs.declared.End.TheVariants.{None, Value}
 use Rattle.crossed_bounds.specs.declared.Bounds.{Bounds}
 use Rattle.crossed_bounds.specs.declared.Bounds.TheVariants.{Real, Integer}
-use Rattle.crossed_bounds.specs.declared.Range.{Range}
-use Rattle.crossed_bounds.specs.declared.Range.TheVariants.{Absent, Within}
+use Rattle.crossed_bounds.specs.Ends.{Range}
 use Rattle.crossed_bounds.proofs.Combined.{both, good_end, good_bounds, good, real-finite, Leaves, combined-leaves}
 
 -- ---- one range
@@ -38,14 +37,14 @@ between {X} {ok} {lt} {le} o a b x A B C h = arm (le a x && le x b) refl
 crossed-empty : (b : Bounds) → good_bounds b ≡ true → crossed_bounds b ≡ true → (k : ℕ) (v : Datum) → of_kind k v ≡ true → inside_bounds b v ≡ false
 unfolding good_bounds good_end crossed_bounds crossed_ends inside_bounds not_below not_above
 crossed-empty (Real None hi) g h k v e = absurd (false≢true h)
-crossed-empty (Real (Value a) None) g h k v e = absurd (false≢true h)
-crossed-empty (Real (Value a) (Value b)) g h k (real x) e =
+crossed-empty (Real (Some a) None) g h k v e = absurd (false≢true h)
+crossed-empty (Real (Some a) (Some b)) g h k (real x) e =
     let G = and_parts (of_kind real_kind (real a)) (of_kind real_kind (real b)) g in
     between reals a b x (real-finite real_kind a G.0) (real-finite real_kind b G.1) (real-finite k x e) h
-crossed-empty (Real (Value a) (Value b)) g h k (integer z) e = refl
-crossed-empty (Real (Value a) (Value b)) g h k (boolean x) e = refl
-crossed-empty (Real (Value a) (Value b)) g h k (string x) e = refl
-crossed-empty (Real (Value a) (Value b)) g h k (enum x y) e = refl
+crossed-empty (Real (Some a) (Some b)) g h k (integer z) e = refl
+crossed-empty (Real (Some a) (Some b)) g h k (boolean x) e = refl
+crossed-empty (Real (Some a) (Some b)) g h k (string x) e = refl
+crossed-empty (Real (Some a) (Some b)) g h k (enum x y) e = refl
 crossed-empty (Integer a b) g h k (real x) e = refl
 crossed-empty (Integer a b) g h k (integer z) e = between integers a b z refl refl refl h
 crossed-empty (Integer a b) g h k (boolean x) e = refl
@@ -56,11 +55,11 @@ crossed-empty (Integer a b) g h k (enum x y) e = refl
 uncrossed-holds : (b : Bounds) → good_bounds b ≡ true → crossed_bounds b ≡ false → (v : Datum) × ((of_kind (bounds_kind b) v ≡ true) × (inside_bounds b v ≡ true))
 unfolding good_bounds good_end crossed_bounds crossed_ends inside_bounds not_below not_above of_kind fits
 uncrossed-holds (Real None None) g h = (real (fin false 0 (pos 0)), (refl, refl))
-uncrossed-holds (Real None (Value b)) g h = (real b, (g, real-le-refl b (real-finite real_kind b g)))
-uncrossed-holds (Real (Value a) None) g h =
+uncrossed-holds (Real None (Some b)) g h = (real b, (g, real-le-refl b (real-finite real_kind b g)))
+uncrossed-holds (Real (Some a) None) g h =
     let G = (and_parts (of_kind real_kind (real a)) true g).0 in
     (real a, (G, both (le a a) true (real-le-refl a (real-finite real_kind a G)) refl))
-uncrossed-holds (Real (Value a) (Value b)) g h =
+uncrossed-holds (Real (Some a) (Some b)) g h =
     let G = and_parts (of_kind real_kind (real a)) (of_kind real_kind (real b)) g in
     let A = real-finite real_kind a G.0 in
     let B = real-finite real_kind b G.1 in
@@ -78,8 +77,8 @@ module _ (r : Range) (rs : List Range) (g : all good (r ∷ rs) ≡ true) where
   none-common = arm (combined (r ∷ rs)) (combined-leaves r rs g)
     where
       arm : (p : Range) → Leaves (r ∷ rs) p → crossed p ≡ true → NoCommon (r ∷ rs)
-      arm Absent H h k v e = absurd (false≢true h)
-      arm (Within b) H h k v e = sym (H.holds k v e) ∙ crossed-empty b H.good h k v e
+      arm None H h k v e = absurd (false≢true h)
+      arm (Some b) H h k v e = sym (H.holds k v e) ∙ crossed-empty b H.good h k v e
 
   -- not crossed, and all uncrossed and of one kind: some value of that kind does
   pub some-common : (k : ℕ) → all (plain k) (r ∷ rs) ≡ true → crossed (combined (r ∷ rs)) ≡ false → Common k (r ∷ rs)
@@ -87,8 +86,8 @@ module _ (r : Range) (rs : List Range) (g : all good (r ∷ rs) ≡ true) where
   some-common k = arm (combined (r ∷ rs)) (combined-leaves r rs g)
     where
       arm : (p : Range) → Leaves (r ∷ rs) p → all (plain k) (r ∷ rs) ≡ true → crossed p ≡ false → Common k (r ∷ rs)
-      arm Absent H a h = absurd (false≢true (sym (H k) ∙ a))
-      arm (Within b) H a h =
+      arm None H a h = absurd (false≢true (sym (H k) ∙ a))
+      arm (Some b) H a h =
           let w = uncrossed-holds b H.good h in
           let e : bounds_kind b ≡ k = eqb-true (bounds_kind b) k (sym (H.kind k) ∙ a) in
           record { value = w.0; of-kind = rw e at w.1.0; inside-all = sym (H.holds (bounds_kind b) w.0 w.1.0) ∙ w.1.1 }
@@ -99,9 +98,9 @@ module _ (r : Range) (rs : List Range) (g : all good (r ∷ rs) ≡ true) where
   not-one-kind h = arm (combined (r ∷ rs)) (combined-leaves r rs g) (or_parts (all (plain real_kind) (r ∷ rs)) (all (plain integer_kind) (r ∷ rs)) h)
     where
       arm : (p : Range) → Leaves (r ∷ rs) p → (all (plain real_kind) (r ∷ rs) ≡ false) × (all (plain integer_kind) (r ∷ rs) ≡ false) → crossed p ≡ false
-      arm Absent H n = refl
-      arm (Within (Real lo hi)) H n = absurd (true≢false (sym (H.kind real_kind) ∙ n.0))
-      arm (Within (Integer lo hi)) H n = absurd (true≢false (sym (H.kind integer_kind) ∙ n.1))
+      arm None H n = refl
+      arm (Some (Real lo hi)) H n = absurd (true≢false (sym (H.kind real_kind) ∙ n.0))
+      arm (Some (Integer lo hi)) H n = absurd (true≢false (sym (H.kind integer_kind) ∙ n.1))
 
   -- all uncrossed and of one kind: some value lies in every range, or none does, and the combined range tells which
   pub one-kind-common : one_kind (r ∷ rs) ≡ true → crossed (combined (r ∷ rs)) ≡ false → (k : ℕ) × Common k (r ∷ rs)

@@ -1,4 +1,5 @@
 -- When a group of 5.4 counts, and values that lie inside all of its ranges. FORMAT 14. That it is reported exactly if there is none is shown in proofs/Exactly.antt.
+use Rattle.std.specs.Prelude.{None, Some}
 use Rattle.std.specs.Prelude.{ℕ, ◌≡◌, Bool, true, false, not, ◌&&◌, ◌||◌, List, eqb}
 use Rattle.base.specs.Lists.{all}
 use Rattle.oce_model.specs.Format.{real_kind, integer_kind}
@@ -9,8 +10,7 @@ use Rattle.crossed_bounds.specs.Groups.{Group}
 use Rattle.crossed_bounds.specs.CrossedBounds.{member_ranges, shared}
 use Rattle.crossed_bounds.specs.declared.Bounds.{Bounds}
 use Rattle.crossed_bounds.specs.declared.Bounds.TheVariants.{Real, Integer}
-use Rattle.crossed_bounds.specs.declared.Range.{Range}
-use Rattle.crossed_bounds.specs.declared.Range.TheVariants.{Absent, Within}
+use Rattle.crossed_bounds.specs.Ends.{Range}
 
 -- a range's kind
 abbrev pub bounds_kind : Bounds → ℕ
@@ -19,8 +19,8 @@ bounds_kind (Integer lo hi) = integer_kind
 
 -- an uncrossed range of kind k
 unfoldable pub plain : ℕ → Range → Bool
-plain k Absent = false
-plain k (Within b) = eqb (bounds_kind b) k && not (crossed_bounds b)
+plain k None = false
+plain k (Some b) = eqb (bounds_kind b) k && not (crossed_bounds b)
 
 -- all have an uncrossed range, and of one kind
 unfoldable pub one_kind : List Range → Bool

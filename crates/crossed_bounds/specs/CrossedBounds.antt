@@ -12,7 +12,7 @@ use Rattle.oce_diag.specs.declared.DiagCode.TheVariants.{CrossedBounds}
 use Rattle.structural.specs.Degrees.{external}
 use Rattle.crossed_bounds.specs.Ranges.{range_of, crossed, combined}
 use Rattle.crossed_bounds.specs.Groups.{Group, members, enter_all, extend_all}
-use Rattle.crossed_bounds.specs.declared.Range.{Range}
+use Rattle.crossed_bounds.specs.Ends.{Range}
 
 -- ---- 5.1 to 5.3, `report`
 

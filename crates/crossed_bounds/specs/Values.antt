@@ -1,4 +1,5 @@
 -- Values, and which of them are of a type and lie inside a range. FORMAT 5 and 13.
+use Rattle.std.specs.Prelude.{None, Some}
 use Rattle.std.specs.Prelude.{ℕ, ◌^◌, Bool, true, false, ◌&&◌, List, eqb, ltb, ℤ, Float}
 use Rattle.std.specs.Int.Signed.{mag, le_z}
 use Rattle.std.specs.Float.{binary64}
@@ -8,14 +9,12 @@ use Rattle.base.specs.Lists.{all}
 use Rattle.numbers.specs.Bytes.{byte_range}
 use Rattle.oce_model.specs.Format.{real_kind, integer_kind, boolean_kind, string_kind, enum_kind}
 use Rattle.oce_model.specs.Model.{Connector}
-use Rattle.crossed_bounds.specs.declared.End.{End}
-use Rattle.crossed_bounds.specs.declared.End.TheVariants.{None, Value}
+use Rattle.crossed_bounds.specs.Ends.{End}
 use Rattle.crossed_bounds.specs.declared.Bounds.{Bounds}
 use Rattle.crossed_bounds.specs.declared.Bounds.TheVariants.{Real, Integer}
-use Rattle.crossed_bounds.specs.declared.Range.{Range}
-use Rattle.crossed_bounds.specs.declared.Range.TheVariants.{Absent, Within}
+use Rattle.crossed_bounds.specs.Ends.{Range}
 
--- the Rust's `Value`, before its type is asked
+-- the Rust's `Some`, before its type is asked
 pub data Datum : Type 0 where
   real : Float → Datum
   integer : ℤ → Datum
@@ -50,12 +49,12 @@ of_type c v = of_kind c.value_type v && class_is c.enum_class v
 -- by number: a Real value is not below a lower end
 unfoldable pub not_below : End → Float → Bool
 not_below None x = true
-not_below (Value a) x = le a x
+not_below (Some a) x = le a x
 
 -- and not above an upper end
 unfoldable pub not_above : End → Float → Bool
 not_above None x = true
-not_above (Value a) x = le x a
+not_above (Some a) x = le x a
 
 -- the value is of the range's kind, and neither below min nor above max
 unfoldable pub inside_bounds : Bounds → Datum → Bool
@@ -72,5 +71,5 @@ inside_bounds (Integer lo hi) (enum class n) = false
 
 -- the value lies inside a range; where there is none every value does
 unfoldable pub inside : Range → Datum → Bool
-inside Absent v = true
-inside (Within b) v = inside_bounds b v
+inside None v = true
+inside (Some b) v = inside_bounds b v

@@ -29,7 +29,7 @@ use Rattle.sorting.proofs.Laws.{sorted-length}
 use Rattle.crossed_sort.specs.Sort.{key_of, goes_first}
 use Rattle.crossed_bounds.specs.Ranges.{crossed, uncrossed, take_in}
 use Rattle.crossed_bounds.specs.CrossedBounds.{member_iri, member_external, member_key, groups, groups_faults}
-use Rattle.crossed_bounds.specs.declared.Range.{Range}
+use Rattle.crossed_bounds.specs.Ends.{Range}
 use Rattle.crossed_members.specs.Members.{member_count, member_range}
 use Rattle.crossed_buckets.specs.Buckets.{is_crowded, crowded_below, crowded_members}
 use Rattle.crossed_domains.specs.Runs.{runs}

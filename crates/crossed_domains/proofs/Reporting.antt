@@ -19,7 +19,7 @@ use Rattle.oce_diag.proofs.Putting.{put-none, put_then, put-length}
 use Rattle.crossed_bounds.specs.Ranges.{combined, take_in, take_in_all}
 use Rattle.crossed_bounds.specs.Groups.{Group, members, alone, joined}
 use Rattle.crossed_bounds.specs.CrossedBounds.{member_external, member_key, member_ranges, group_faults, groups_faults}
-use Rattle.crossed_bounds.specs.declared.Range.{Range}
+use Rattle.crossed_bounds.specs.Ends.{Range}
 use Rattle.crossed_bounds.proofs.Combined.{combined-more}
 use Rattle.crossed_members.specs.Members.{member_range}
 use Rattle.crossed_domains.specs.Runs.{runs_from, runs}

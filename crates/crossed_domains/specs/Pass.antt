@@ -12,7 +12,7 @@ use Rattle.oce_diag.specs.declared.Subject.TheVariants.{Text}
 use Rattle.oce_diag.specs.declared.DiagCode.TheVariants.{CrossedBounds}
 use Rattle.crossed_bounds.specs.Ranges.{crossed, uncrossed, take_in}
 use Rattle.crossed_bounds.specs.CrossedBounds.{member_iri, member_external, member_key}
-use Rattle.crossed_bounds.specs.declared.Range.{Range}
+use Rattle.crossed_bounds.specs.Ends.{Range}
 use Rattle.crossed_members.specs.Members.{member_range}
 use Rattle.crossed_domains.specs.declared.Pass.{Pass}
 

@@ -17,7 +17,7 @@ ghost use Rattle.crossed_buckets.specs.Buckets.{crowded_members};
 ghost use Rattle.crossed_domains.specs.Runs.{runs};
 ghost use Rattle.crossed_domains.specs.Pass.{few_members, opened, grown, is_reported, pass_faults, same_key, AllMembers, Below, PassFits, Stepped};
 
-use crossed_bounds::Range;
+use crossed_bounds::Bounds;
 use crossed_buckets::collect_crowded;
 use crossed_members::{member_external, member_iri, member_range, some_external};
 use crossed_ranges::{is_crossed, take_in, uncrossed};
@@ -41,7 +41,7 @@ pub struct Pass {
     pub first: usize,
     pub members: usize,
     pub external: bool,
-    pub kept: Range,
+    pub kept: Option<Bounds>,
 }
 
 fn member_count(image: &[u8], layout: Layout) -> usize
@@ -55,7 +55,7 @@ fn member_count(image: &[u8], layout: Layout) -> usize
 
 // ---- the open group
 
-fn open(counted: Counted, x: usize, external: bool, range: Range) -> Pass
+fn open(counted: Counted, x: usize, external: bool, range: Option<Bounds>) -> Pass
     ensures { (result ≡ opened counted x external range) × (result.counted ≡ counted) }
 {
     Pass {
@@ -76,7 +76,7 @@ fn either(a: bool, b: bool) -> bool
     b
 }
 
-fn grow(p: Pass, external: bool, range: Range) -> Pass
+fn grow(p: Pass, external: bool, range: Option<Bounds>) -> Pass
     requires { p.members < short_range }
     ensures { result ≡ grown p external range }
 {

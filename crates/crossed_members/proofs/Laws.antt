@@ -21,7 +21,7 @@ use Rattle.image_records.proofs.Laws.{connector-near, connectors-counted}
 use Rattle.structural.specs.Degrees.{external}
 use Rattle.crossed_bounds.specs.Ranges.{range_of}
 use Rattle.crossed_bounds.specs.CrossedBounds.{member_iri, member_attrs, member_external, joins}
-use Rattle.crossed_bounds.specs.declared.Range.{Range}
+use Rattle.crossed_bounds.specs.Ends.{Range}
 use Rattle.crossed_members.specs.Members.{member_range, member_joins}
 
 -- ---- one member

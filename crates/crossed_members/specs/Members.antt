@@ -5,7 +5,7 @@ use Rattle.oce_model.specs.Model.{Model, connector, is_connector}
 use Rattle.image_accept.specs.declared.Layout.{Layout}
 use Rattle.crossed_bounds.specs.Ranges.{range_of}
 use Rattle.crossed_bounds.specs.CrossedBounds.{member_attrs, joins}
-use Rattle.crossed_bounds.specs.declared.Range.{Range}
+use Rattle.crossed_bounds.specs.Ends.{Range}
 
 -- how many members there are
 abbrev pub member_count : Layout → ℕ

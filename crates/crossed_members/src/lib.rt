@@ -13,7 +13,7 @@ ghost use Rattle.structural_externals.specs.Columns.{Listed};
 ghost use Rattle.crossed_bounds.specs.CrossedBounds.{member_iri, member_attrs, member_external};
 ghost use Rattle.crossed_members.specs.Members.{member_count, is_member, member_range, member_joins};
 
-use crossed_bounds::Range;
+use crossed_bounds::Bounds;
 use crossed_ranges::range_of;
 use image_accept::Layout;
 use image_records::{boundary_input_attrs, boundary_input_iri, connector, connector_attrs};
@@ -50,7 +50,7 @@ fn member_attrs(image: &[u8], layout: Layout, x: usize) -> usize
 }
 
 // The range of member x's attributes.
-pub fn member_range(image: &[u8], layout: Layout, x: usize) -> Range
+pub fn member_range(image: &[u8], layout: Layout, x: usize) -> Option<Bounds>
     requires { Laid image.now layout × is_member layout x }
     ensures { result ≡ member_range (model_of image.now) x }
 {

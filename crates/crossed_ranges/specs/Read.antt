@@ -1,19 +1,18 @@
 -- The range of attributes as code has them, by value.
+use Rattle.std.specs.Prelude.{None, Some}
 use Rattle.std.specs.Prelude.{Bool, true, false, cond, ◌&&◌, ℤ, Float}
 use Rattle.std.specs.Float.Ieee.Scale.{finite}
 use Rattle.numbers.specs.Bytes.{bit}
 use Rattle.oce_model.specs.Format.{min_bit, max_bit}
 use Rattle.oce_model.specs.declared.RealAttrs.{RealAttrs}
 use Rattle.oce_model.specs.declared.IntAttrs.{IntAttrs}
-use Rattle.crossed_bounds.specs.declared.End.{End}
-use Rattle.crossed_bounds.specs.declared.End.TheVariants.{None, Value}
+use Rattle.crossed_bounds.specs.Ends.{End}
 use Rattle.crossed_bounds.specs.declared.Bounds.TheVariants.{Real, Integer}
-use Rattle.crossed_bounds.specs.declared.Range.{Range}
-use Rattle.crossed_bounds.specs.declared.Range.TheVariants.{Absent, Within}
+use Rattle.crossed_bounds.specs.Ends.{Range}
 
 -- an end that is marked as set, or none
 abbrev pub end_read : Bool → Float → End
-end_read true x = Value x
+end_read true x = Some x
 end_read false x = None
 
 -- an end that is unset, or finite
@@ -26,8 +25,8 @@ unfoldable pub real_read : RealAttrs → Range
 real_read a =
     let low = bit a.marks min_bit in
     let high = bit a.marks max_bit in
-    cond (end_fine low a.min && end_fine high a.max) (Within (Real (end_read low a.min) (end_read high a.max))) Absent
+    cond (end_fine low a.min && end_fine high a.max) (Some (Real (end_read low a.min) (end_read high a.max))) None
 
 -- the range of Integer attributes, by the head's defaults
 unfoldable pub integer_read : IntAttrs → ℤ → ℤ → Range
-integer_read a min max = Within (Integer (cond (bit a.marks min_bit) a.min min) (cond (bit a.marks max_bit) a.max max))
+integer_read a min max = Some (Integer (cond (bit a.marks min_bit) a.min min) (cond (bit a.marks max_bit) a.max max))

@@ -10,7 +10,7 @@ ghost use Rattle.oce_model.specs.Model.{model_of};
 ghost use Rattle.image_accept.specs.Layout.{Laid};
 ghost use Rattle.crossed_ranges.specs.Read.{end_read, end_fine, real_read, integer_read};
 
-use crossed_bounds::{Bounds, End, Range};
+use crossed_bounds::Bounds;
 use image_accept::Layout;
 use image_attributes::{attrs_kind, int_attrs, real_attrs};
 use numbers::{is_finite, is_set};
@@ -18,14 +18,14 @@ use oce_model::{INTEGER_KIND, IntAttrs, MAX_BIT, MIN_BIT, REAL_KIND, RealAttrs};
 
 // ---- crossed: min is above max, by number
 
-fn ends_crossed(lo: End, hi: End) -> bool
+fn ends_crossed(lo: Option<f64>, hi: Option<f64>) -> bool
     ensures { result ≡ crossed_ends lo hi }
 {
     match lo {
-        End::None => false,
-        End::Value(a) => match hi {
-            End::None => false,
-            End::Value(b) => b < a,
+        None => false,
+        Some(a) => match hi {
+            None => false,
+            Some(b) => b < a,
         },
     }
 }
@@ -40,46 +40,46 @@ fn bounds_crossed(b: Bounds) -> bool
 }
 
 // There is a range, and it is crossed.
-pub fn is_crossed(r: Range) -> bool
+pub fn is_crossed(r: Option<Bounds>) -> bool
     ensures { result ≡ crossed r }
 {
     match r {
-        Range::Absent => false,
-        Range::Within(b) => bounds_crossed(b),
+        None => false,
+        Some(b) => bounds_crossed(b),
     }
 }
 
 // ---- of two ends the tighter one, of two equal ones the first
 
-fn higher_end(x: End, y: End) -> End
+fn higher_end(x: Option<f64>, y: Option<f64>) -> Option<f64>
     ensures { result ≡ higher x y }
 {
     match x {
-        End::None => y,
-        End::Value(a) => match y {
-            End::None => End::Value(a),
-            End::Value(b) => {
+        None => y,
+        Some(a) => match y {
+            None => Some(a),
+            Some(b) => {
                 if a < b {
-                    return End::Value(b);
+                    return Some(b);
                 }
-                End::Value(a)
+                Some(a)
             }
         },
     }
 }
 
-fn lower_end(x: End, y: End) -> End
+fn lower_end(x: Option<f64>, y: Option<f64>) -> Option<f64>
     ensures { result ≡ lower x y }
 {
     match x {
-        End::None => y,
-        End::Value(a) => match y {
-            End::None => End::Value(a),
-            End::Value(b) => {
+        None => y,
+        Some(a) => match y {
+            None => Some(a),
+            Some(b) => {
                 if b < a {
-                    return End::Value(b);
+                    return Some(b);
                 }
-                End::Value(a)
+                Some(a)
             }
         },
     }
@@ -106,7 +106,7 @@ fn lower_integer(a: i64, b: i64) -> i64
 // ---- what is left of several ranges
 
 // The intersection of two ranges of one kind; two kinds have none.
-pub fn intersect(x: Bounds, y: Bounds) -> Range
+pub fn intersect(x: Bounds, y: Bounds) -> Option<Bounds>
     ensures { result ≡ intersect x y }
 {
     match x {
@@ -114,52 +114,52 @@ pub fn intersect(x: Bounds, y: Bounds) -> Range
             Bounds::Real(c, d) => {
                 let lo = higher_end(a, c);
                 let hi = lower_end(b, d);
-                Range::Within(Bounds::Real(lo, hi))
+                Some(Bounds::Real(lo, hi))
             }
-            Bounds::Integer(_, _) => Range::Absent,
+            Bounds::Integer(_, _) => None,
         },
         Bounds::Integer(a, b) => match y {
-            Bounds::Real(_, _) => Range::Absent,
+            Bounds::Real(_, _) => None,
             Bounds::Integer(c, d) => {
                 let lo = higher_integer(a, c);
                 let hi = lower_integer(b, d);
-                Range::Within(Bounds::Integer(lo, hi))
+                Some(Bounds::Integer(lo, hi))
             }
         },
     }
 }
 
-fn intersect_with(x: Bounds, r: Range) -> Range
+fn intersect_with(x: Bounds, r: Option<Bounds>) -> Option<Bounds>
     ensures { result ≡ intersect_with x r }
 {
     match r {
-        Range::Absent => Range::Absent,
-        Range::Within(y) => intersect(x, y),
+        None => None,
+        Some(y) => intersect(x, y),
     }
 }
 
 // A crossed range doesn't count.
-pub fn uncrossed(r: Range) -> Range
+pub fn uncrossed(r: Option<Bounds>) -> Option<Bounds>
     ensures { result ≡ uncrossed r }
 {
     match r {
-        Range::Absent => Range::Absent,
-        Range::Within(b) => {
+        None => None,
+        Some(b) => {
             if bounds_crossed(b) {
-                return Range::Absent;
+                return None;
             }
-            Range::Within(b)
+            Some(b)
         }
     }
 }
 
 // What is kept of the members before, and one member more.
-pub fn take_in(kept: Range, r: Range) -> Range
+pub fn take_in(kept: Option<Bounds>, r: Option<Bounds>) -> Option<Bounds>
     ensures { result ≡ take_in kept r }
 {
     match kept {
-        Range::Absent => Range::Absent,
-        Range::Within(b) => intersect_with(b, uncrossed(r)),
+        None => None,
+        Some(b) => intersect_with(b, uncrossed(r)),
     }
 }
 
@@ -168,13 +168,13 @@ pub fn take_in(kept: Range, r: Range) -> Range
 // ---- Real
 
 // An end that is marked as set, or none.
-fn end_of(set: bool, x: f64) -> End
+fn end_of(set: bool, x: f64) -> Option<f64>
     ensures { result ≡ end_read set x }
 {
     if set {
-        return End::Value(x);
+        return Some(x);
     }
-    End::None
+    None
 }
 
 // The end is unset or finite.
@@ -188,20 +188,20 @@ fn end_fine(set: bool, x: f64) -> bool
 }
 
 // The range of Real attributes.
-pub fn real_range(a: RealAttrs) -> Range
+pub fn real_range(a: RealAttrs) -> Option<Bounds>
     ensures { result ≡ real_read a }
 {
     let low = is_set(a.marks, MIN_BIT);
     let high = is_set(a.marks, MAX_BIT);
     if !end_fine(low, a.min) {
-        return Range::Absent;
+        return None;
     }
     if !end_fine(high, a.max) {
-        return Range::Absent;
+        return None;
     }
     let lo = end_of(low, a.min);
     let hi = end_of(high, a.max);
-    Range::Within(Bounds::Real(lo, hi))
+    Some(Bounds::Real(lo, hi))
 }
 
 // ---- Integer
@@ -217,20 +217,20 @@ fn end_or(set: bool, x: i64, default: i64) -> i64
 }
 
 // The range of Integer attributes; min and max are the defaults.
-pub fn integer_range(a: IntAttrs, min: i64, max: i64) -> Range
+pub fn integer_range(a: IntAttrs, min: i64, max: i64) -> Option<Bounds>
     ensures { result ≡ integer_read a min max }
 {
     let low = is_set(a.marks, MIN_BIT);
     let high = is_set(a.marks, MAX_BIT);
     let lo = end_or(low, a.min, min);
     let hi = end_or(high, a.max, max);
-    Range::Within(Bounds::Integer(lo, hi))
+    Some(Bounds::Integer(lo, hi))
 }
 
 // ---- any kind
 
-// The range of the attributes at an offset, whatever their kind; `Range::Absent` where they have none.
-pub fn range_of(image: &[u8], layout: Layout, at: usize) -> Range
+// The range of the attributes at an offset, whatever their kind; `None` where they have none.
+pub fn range_of(image: &[u8], layout: Layout, at: usize) -> Option<Bounds>
     requires { Laid image.now layout × (at ≤ longest_image + connector_attrs) × (at + attrs_length ≤ length image.now) }
     ensures { result ≡ range_of (model_of image.now).defaults (attrs_at image.now at) }
 {
@@ -241,5 +241,5 @@ pub fn range_of(image: &[u8], layout: Layout, at: usize) -> Range
     if kind == INTEGER_KIND {
         return integer_range(int_attrs(image, at), layout.min, layout.max);
     }
-    Range::Absent
+    None
 }

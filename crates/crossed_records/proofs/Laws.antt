@@ -24,7 +24,7 @@ use Rattle.image_records.specs.Records.{connector_read, output_read}
 use Rattle.image_records.proofs.Laws.{connectors-counted, inputs-counted, outputs-counted, connectors-few, boundary-inputs-few, boundary-outputs-few}
 use Rattle.crossed_bounds.specs.Ranges.{range_of, crossed}
 use Rattle.crossed_bounds.specs.CrossedBounds.{crossed_faults, connector_crossed, input_crossed, output_crossed, groups, groups_faults, rule5}
-use Rattle.crossed_bounds.specs.declared.Range.{Range}
+use Rattle.crossed_bounds.specs.Ends.{Range}
 
 -- ---- one record
 

@@ -16,14 +16,14 @@ use Rattle.oce_model.specs.Image.{field_at, fields, first, of_tag}
 use Rattle.oce_model.specs.Refusals.{bad_tag, refusal, too_many}
 use Rattle.oce_model.specs.declared.Field.{Field}
 use Rattle.oce_model.proofs.Accepted.{accepted}
-use Rattle.oce_model.proofs.Fields.{None, first-none, none-mem}
+use Rattle.oce_model.proofs.Fields.{NonePass, first-none, none-mem}
 use Rattle.image_framing.specs.Walk.{Walking, after, end_of, from, placed, start}
 use Rattle.image_framing.proofs.Walks.{walk_start}
 use Rattle.image_accept.specs.Layout.{offsets_of}
 use Rattle.image_accept.specs.Sections.{Tagged}
 use Rattle.image_accept.proofs.Runs.{after-prev, ascends, none-head, past, tag-here, tag-not}
 
-none_first : (p : Field → Bool) (l : List Field) → None p l → first p l ≡ None
+none_first : (p : Field → Bool) (l : List Field) → NonePass p l → first p l ≡ None
 none_first p l n = first-none p l (none-mem p l n)
 
 pub accepted-tagged : {s : List ℕ} → refusal s ≡ None → Tagged s

@@ -25,10 +25,8 @@ use Rattle.oce_model.specs.Model.{Connector, Model}
 use Rattle.crossed_bounds.specs.Ranges.{finite_end, real_end, or_default, real_range, integer_range, range_of, crossed_ends, crossed_bounds, crossed}
 use Rattle.crossed_bounds.specs.Values.{Datum, real, integer, boolean, string, enum, of_kind, class_is, of_type, not_below, not_above, inside_bounds, inside}
 use Rattle.crossed_bounds.specs.declared.Bounds.TheVariants.{Real, Integer}
-use Rattle.crossed_bounds.specs.declared.End.{End}
-use Rattle.crossed_bounds.specs.declared.End.TheVariants.{None, Value}
-use Rattle.crossed_bounds.specs.declared.Range.{Range}
-use Rattle.crossed_bounds.specs.declared.Range.TheVariants.{Absent, Within}
+use Rattle.crossed_bounds.specs.Ends.{End}
+use Rattle.crossed_bounds.specs.Ends.{Range}
 use Rattle.base.proofs.Lists.{and_parts}
 use Rattle.base.proofs.Members.{and_both}
 use Rattle.numbers.proofs.Reals.{real-le-refl, real-not-lt-le}
@@ -37,19 +35,19 @@ use Rattle.numbers.proofs.Integers.{int-le-refl, int-not-lt-le}
 -- an end of the range where it has one, else 0
 abbrev real_in : End → End → Float
 real_in None None = fin false 0 (pos 0)
-real_in None (Value b) = b
-real_in (Value a) None = a
-real_in (Value a) (Value b) = a
+real_in None (Some b) = b
+real_in (Some a) None = a
+real_in (Some a) (Some b) = a
 
 abbrev pick_real : Range → Float
-pick_real Absent = fin false 0 (pos 0)
-pick_real (Within (Real lo hi)) = real_in lo hi
-pick_real (Within (Integer lo hi)) = fin false 0 (pos 0)
+pick_real None = fin false 0 (pos 0)
+pick_real (Some (Real lo hi)) = real_in lo hi
+pick_real (Some (Integer lo hi)) = fin false 0 (pos 0)
 
 abbrev pick_integer : Range → ℤ
-pick_integer Absent = pos 0
-pick_integer (Within (Real lo hi)) = pos 0
-pick_integer (Within (Integer lo hi)) = lo
+pick_integer None = pos 0
+pick_integer (Some (Real lo hi)) = pos 0
+pick_integer (Some (Integer lo hi)) = lo
 
 -- a value of a type and a class inside a range
 abbrev pub pick : ℕ → ℕ → Range → Datum
@@ -79,8 +77,8 @@ real-fit : (x y : Option ℕ) → crossed (real_range x y) ≡ false → Fit 0 (
 unfolding real_range inside inside_bounds not_below not_above finite_end real_end crossed crossed_bounds crossed_ends
 real-fit x y h = arm x y (finite_end x && finite_end y) refl h
   where
-    arm : (x y : Option ℕ) (t : Bool) → (finite_end x && finite_end y) ≡ t → crossed (cond t (Within (Real (real_end x) (real_end y))) Absent) ≡ false
-        → Fit 0 (cond t (Within (Real (real_end x) (real_end y))) Absent) (real (pick_real (cond t (Within (Real (real_end x) (real_end y))) Absent)))
+    arm : (x y : Option ℕ) (t : Bool) → (finite_end x && finite_end y) ≡ t → crossed (cond t (Some (Real (real_end x) (real_end y))) None) ≡ false
+        → Fit 0 (cond t (Some (Real (real_end x) (real_end y))) None) (real (pick_real (cond t (Some (Real (real_end x) (real_end y))) None)))
     arm x y false e h = record { kind = zero-real; range = refl }
     arm None None true e h = record { kind = zero-real; range = refl }
     arm None (Some q) true e h = record { kind = bits-real q e; range = real-le-refl (real64 q) e }
@@ -104,7 +102,7 @@ default-mag : (o : Option ℕ) (z : ℤ) → mag z < 2 ^ 63 → mag (or_default 
 default-mag None z h = h
 default-mag (Some b) z h = signed-mag b
 
-integer-fit : (lo hi : ℤ) → mag lo < 2 ^ 63 → crossed (Within (Integer lo hi)) ≡ false → Fit 1 (Within (Integer lo hi)) (integer lo)
+integer-fit : (lo hi : ℤ) → mag lo < 2 ^ 63 → crossed (Some (Integer lo hi)) ≡ false → Fit 1 (Some (Integer lo hi)) (integer lo)
 unfolding of_kind inside inside_bounds crossed crossed_bounds
 integer-fit lo hi l h = record { kind = lt-ltb _ _ l; range = and_both _ _ (int-le-refl lo) (int-not-lt-le lo hi h) }
 
@@ -113,11 +111,11 @@ module _ (m : Model) (a : Attrs) where
   unfolding range_of
   range-real e = rw (eq-eqb a.kind 0 e)
 
-  range-integer : a.kind ≡ integer_kind → range_of m.defaults a ≡ Within (Integer (or_default (declared_at a min_bit) m.defaults.min) (or_default (declared_at a max_bit) m.defaults.max))
+  range-integer : a.kind ≡ integer_kind → range_of m.defaults a ≡ Some (Integer (or_default (declared_at a min_bit) m.defaults.min) (or_default (declared_at a max_bit) m.defaults.max))
   unfolding range_of integer_range
   range-integer e = rw (ne_eqb a.kind 0 (λ z. absurd (omega arith)), eq-eqb a.kind 1 e)
 
-  range_none : 2 ≤ a.kind → range_of m.defaults a ≡ Absent
+  range_none : 2 ≤ a.kind → range_of m.defaults a ≡ None
   unfolding range_of
   range_none l = rw (ne_eqb a.kind 0 (λ z. absurd (omega arith)), ne_eqb a.kind 1 (λ z. absurd (omega arith)))
 
@@ -147,7 +145,7 @@ pick-fits m c a e l i h =
     (and_both _ _ f.kind (class-fit c.value_type c.enum_class (range_of m.defaults a)), f.range)
 
 -- no value lies inside an Integer range whose ends are numbers from 0 on, the min above the max
-pub crossed-empty : (a b : ℕ) → b < a → (v : Datum) → inside (Within (Integer (pos a) (pos b))) v ≡ true → ⊥
+pub crossed-empty : (a b : ℕ) → b < a → (v : Datum) → inside (Some (Integer (pos a) (pos b))) v ≡ true → ⊥
 unfolding inside inside_bounds
 crossed-empty a b l (real x) h = false≢true h
 crossed-empty a b l (integer (pos z)) h =

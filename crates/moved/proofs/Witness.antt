@@ -1,5 +1,6 @@
 -- Demand 3, FORMAT 18, isn't empty: a model with two roots, a fan-out, boundary outputs of both, Real, Integer, Enum and String connectors and an In without a
 -- connection, with a unit and ends that are filled, meets all its premises. Its premise on kinds is needed. And what its definitions say no to.
+use Rattle.std.specs.Prelude.{Some}
 use Prim.Native.Nat.{ℕ, ◌<◌}
 use native.Mathlib.Decide.{dec_lt}
 use native.Mathlib.Omega.{arith}
@@ -25,7 +26,6 @@ use Rattle.oce_diag.specs.Encoding.{report_bytes}
 use Rattle.crossed_bounds.specs.Ranges.{range_of}
 use Rattle.crossed_bounds.specs.Values.{Datum, real, integer, boolean, string, enum, of_type, inside}
 use Rattle.crossed_bounds.specs.declared.Bounds.TheVariants.{Integer}
-use Rattle.crossed_bounds.specs.declared.Range.TheVariants.{Within}
 use Rattle.outcome.specs.Filled.{filled_of}
 use Rattle.outcome.specs.Answer.{report_of, answer, filled_after, report_after}
 use Rattle.outcome.specs.declared.Answer.TheVariants.{Checked}
@@ -167,7 +167,7 @@ pub record Unlike : Type 0 where
   pub input : is_in (connector (model_of unlike) 1) ≡ true
   pub value_type : (connector (model_of unlike) 1).value_type ≡ 0
   pub kind : (connector (model_of unlike) 1).attrs.kind ≡ 1
-  pub range : range_of (model_of (filled_of unlike)).defaults (connector (model_of (filled_of unlike)) 1).attrs ≡ Within (Integer (pos 5) (pos 3))
+  pub range : range_of (model_of (filled_of unlike)).defaults (connector (model_of (filled_of unlike)) 1).attrs ≡ Some (Integer (pos 5) (pos 3))
 
 pub unlike-computed : Unlike
 unfolding computed computed_witness of_bits lt

@@ -18,7 +18,7 @@ use Rattle.oce_model.specs.Refusals.{Refusal, bad_block_length, bad_contents, ba
 use Rattle.oce_model.specs.declared.Field.{Field}
 use Rattle.base.proofs.Lists.{or_parts}
 use Rattle.base.proofs.Members.{get_or-map}
-use Rattle.oce_model.proofs.Fields.{None, none-mem, none_of, nth}
+use Rattle.oce_model.proofs.Fields.{NonePass, none-mem, none_of, nth}
 
 -- ---- an image that is not turned away: what each refusal then says
 
@@ -26,12 +26,12 @@ pub record Accepted (s : List ℕ) : Type 0 where
   pub long : shortest_image ≤ length s
   pub short : length s ≤ longest_image
   pub ends : stop s ≡ length s
-  pub tags : None bad_tag (fields s)
-  pub lengths : None (bad_length s) (fields s)
-  pub counts : None too_many (fields s)
-  pub contents : None (bad_contents s) (fields s)
-  pub texts : None (bad_text s) (fields s)
-  pub numbers : None (bad_reference (length (of_tag text_tag (fields s))) s) (fields s)
+  pub tags : NonePass bad_tag (fields s)
+  pub lengths : NonePass (bad_length s) (fields s)
+  pub counts : NonePass too_many (fields s)
+  pub contents : NonePass (bad_contents s) (fields s)
+  pub texts : NonePass (bad_text s) (fields s)
+  pub numbers : NonePass (bad_reference (length (of_tag text_tag (fields s))) s) (fields s)
 
 stop-from : (k : ℕ) (s : List ℕ) (at : ℕ) → at ≤ length s → stop_from k s at ≤ length s
 unfolding stop_from

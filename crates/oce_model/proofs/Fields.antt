@@ -6,7 +6,7 @@ use mathlib.Core.Path.{◌≡◌, refl, sym, ap, ◌∙◌}
 use mathlib.Core.Bool.{Bool, true, false, cond}
 use mathlib.Core.List.Memᴰ
 use mathlib.Core.List.{List, [], ◌∷◌, Memᴰ}
-use Rattle.std.specs.Prelude.{Some, None}
+use Rattle.std.specs.Prelude.{Option, Some, None}
 use Rattle.base.proofs.Options.{some-ne-none}
 use mathlib.Core.Logic.{◌⊎◌, inl, inr}
 use lib.ListN.{length, get_or}
@@ -21,20 +21,20 @@ use Rattle.base.proofs.Members.{get_or-mem}
 -- ---- fields that pass a test, or don't
 
 -- no field of a list passes a test
-pub data None (p : Field → Bool) : List Field → Type 0 where
-  end : None p []
-  and : {f : Field} {l : List Field} → p f ≡ false → None p l → None p (f ∷ l)
+pub data NonePass (p : Field → Bool) : List Field → Type 0 where
+  end : NonePass p []
+  and : {f : Field} {l : List Field} → p f ≡ false → NonePass p l → NonePass p (f ∷ l)
 
-pub none_of : (p : Field → Bool) (l : List Field) → first p l ≡ None → None p l
+pub none_of : (p : Field → Bool) (l : List Field) → first p l ≡ None → NonePass p l
 unfolding first
 none_of p [] h = end
 none_of p (f ∷ l) h = arm (p f) refl h (none_of p l)
   where
-    arm : (b : Bool) → p f ≡ b → cond b (Some f.at) (first p l) ≡ None → (first p l ≡ None → None p l) → None p (f ∷ l)
+    arm : (b : Bool) → p f ≡ b → cond b (Some f.at) (first p l) ≡ None → (first p l ≡ None → NonePass p l) → NonePass p (f ∷ l)
     arm true e h ih = absurd (some-ne-none f.at h)
     arm false e h ih = and e (ih h)
 
-pub none-mem : (p : Field → Bool) (l : List Field) → None p l → (f : Field) → Memᴰ f l → p f ≡ false
+pub none-mem : (p : Field → Bool) (l : List Field) → NonePass p l → (f : Field) → Memᴰ f l → p f ≡ false
 none-mem p l (end) f m = absurd (Memᴰ.not-nil m)
 none-mem p l (and {f = g} {l = r} e n) f m = arm (Memᴰ.cases_cons m) (none-mem p r n f)
   where

@@ -21,7 +21,7 @@ use Rattle.oce_model.specs.Refusals.{bad_length, bad_tag, tag_is_bad}
 use Rattle.base.proofs.Lists.{or_parts}
 use Rattle.base.proofs.Members.{get_or-map}
 use Rattle.oce_model.proofs.Accepted.{Accepted, connection-is, connections-length, connector-is, connectors-length, fixed-length, input-is, inputs-length, output-is, outputs-length}
-use Rattle.oce_model.proofs.Fields.{None, and, nth}
+use Rattle.oce_model.proofs.Fields.{NonePass, and, nth}
 
 ascends : (f : Field) → bad_tag f ≡ false → f.prev ≤ f.tag
 unfolding bad_tag tag_is_bad
@@ -29,7 +29,7 @@ ascends f h = ltb-false f.tag f.prev (or_parts (eqb f.tag 0 || ltb 8 f.tag) _ (o
 
 module _ (s : List ℕ) (t z : ℕ) where
   -- after a higher tag there is none
-  past-tag : (k at prev ord : ℕ) → t < prev → None bad_tag (fields_from k s at prev ord) → of_tag t (fields_from k s at prev ord) ≡ []
+  past-tag : (k at prev ord : ℕ) → t < prev → NonePass bad_tag (fields_from k s at prev ord) → of_tag t (fields_from k s at prev ord) ≡ []
   unfolding fields_from of_tag keep field_at
   past-tag zero at prev ord l n = refl
   past-tag (suc k) at prev ord l n =
@@ -38,7 +38,7 @@ module _ (s : List ℕ) (t z : ℕ) where
       rest : List Field
       rest = fields_from k s (field_end s at) (byte s at) (suc (ord_of prev ord (byte s at)))
 
-      arm : (b : Bool) → None bad_tag (cond b (field_at s at prev (ord_of prev ord (byte s at)) ∷ rest) []) → (t < byte s at → None bad_tag rest → of_tag t rest ≡ [])
+      arm : (b : Bool) → NonePass bad_tag (cond b (field_at s at prev (ord_of prev ord (byte s at)) ∷ rest) []) → (t < byte s at → NonePass bad_tag rest → of_tag t rest ≡ [])
           → of_tag t (cond b (field_at s at prev (ord_of prev ord (byte s at)) ∷ rest) []) ≡ []
       arm false n ih = refl
       arm true (and e n) ih =
@@ -72,7 +72,7 @@ module _ (s : List ℕ) (t z : ℕ) where
 
   module _ (q : Field → Bool) (fixed : (f : Field) → f.tag ≡ t → q f ≡ false → 3 + f.len ≡ z) where
     -- after the tag t, or a higher one
-    run : (k at prev ord : ℕ) → t ≤ prev → None bad_tag (fields_from k s at prev ord) → None q (fields_from k s at prev ord) → Run (fields_from k s at prev ord) at
+    run : (k at prev ord : ℕ) → t ≤ prev → NonePass bad_tag (fields_from k s at prev ord) → NonePass q (fields_from k s at prev ord) → Run (fields_from k s at prev ord) at
     unfolding fields_from field_at field_end
     run zero at prev ord l n o = empty at
     run (suc k) at prev ord l n o = arm (leb (field_end s at) (length s)) n o (run k (field_end s at) (byte s at) (suc (ord_of prev ord (byte s at))))
@@ -80,8 +80,8 @@ module _ (s : List ℕ) (t z : ℕ) where
         rest : List Field
         rest = fields_from k s (field_end s at) (byte s at) (suc (ord_of prev ord (byte s at)))
 
-        arm : (b : Bool) → None bad_tag (cond b (field_at s at prev (ord_of prev ord (byte s at)) ∷ rest) []) → None q (cond b (field_at s at prev (ord_of prev ord (byte s at)) ∷ rest) [])
-            → (t ≤ byte s at → None bad_tag rest → None q rest → Run rest (field_end s at))
+        arm : (b : Bool) → NonePass bad_tag (cond b (field_at s at prev (ord_of prev ord (byte s at)) ∷ rest) []) → NonePass q (cond b (field_at s at prev (ord_of prev ord (byte s at)) ∷ rest) [])
+            → (t ≤ byte s at → NonePass bad_tag rest → NonePass q rest → Run rest (field_end s at))
             → Run (cond b (field_at s at prev (ord_of prev ord (byte s at)) ∷ rest) []) at
         arm false n o ih = empty at
         arm true (and e n) (and g o) ih =
@@ -90,7 +90,7 @@ module _ (s : List ℕ) (t z : ℕ) where
             (λ h. past-tag k (field_end s at) (byte s at) _ (omega arith) n)
 
     -- from the start
-    begin : (k at prev ord e : ℕ) → None bad_tag (fields_from k s at prev ord) → None q (fields_from k s at prev ord)
+    begin : (k at prev ord e : ℕ) → NonePass bad_tag (fields_from k s at prev ord) → NonePass q (fields_from k s at prev ord)
         → Run (fields_from k s at prev ord) (or_end (first (λ f. leb t f.tag) (fields_from k s at prev ord)) e)
     unfolding fields_from field_at field_end first
     begin zero at prev ord e n o = empty e
@@ -102,8 +102,8 @@ module _ (s : List ℕ) (t z : ℕ) where
         p : Field → Bool
         p = λ f. leb t f.tag
 
-        arm : (b : Bool) → None bad_tag (cond b (field_at s at prev (ord_of prev ord (byte s at)) ∷ rest) []) → None q (cond b (field_at s at prev (ord_of prev ord (byte s at)) ∷ rest) [])
-            → (None bad_tag rest → None q rest → Run rest (or_end (first p rest) e))
+        arm : (b : Bool) → NonePass bad_tag (cond b (field_at s at prev (ord_of prev ord (byte s at)) ∷ rest) []) → NonePass q (cond b (field_at s at prev (ord_of prev ord (byte s at)) ∷ rest) [])
+            → (NonePass bad_tag rest → NonePass q rest → Run rest (or_end (first p rest) e))
             → Run (cond b (field_at s at prev (ord_of prev ord (byte s at)) ∷ rest) []) (or_end (first p (cond b (field_at s at prev (ord_of prev ord (byte s at)) ∷ rest) [])) e)
         arm false n o ih = empty e
         arm true (and b n) (and g o) ih = side (leb t (byte s at)) refl

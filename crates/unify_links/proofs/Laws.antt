@@ -1,4 +1,6 @@
 -- Laws of links and their lists.
+use Rattle.std.specs.Prelude.{Option}
+use Rattle.std.specs.Prelude.{None, Some}
 use Prim.Native.Nat.{ℕ, zero, suc, ◌+◌, ◌-◌, ◌≤◌, ◌<◌}
 use native.Mathlib.Numerals.{add-one}
 use native.Mathlib.Decide.{dec_lt, ℕ_discrete}
@@ -28,21 +30,20 @@ use Rattle.unify.specs.Clusters.{drives, sound, target, alias, driven, is_root}
 use Rattle.unify_slots.specs.Table.{slot_count, Inside}
 use Rattle.image_records.proofs.Laws.{connectors-counted, connections-counted, outputs-counted, connectors-few, connections-few, boundary-outputs-few}
 use Rattle.unify_links.specs.Links.{link_count, root_at, connection_root, output_root, root_of, target_of, belongs, member, Empty, Leads, Linked, Gathered}
-use Rattle.unify_links.specs.declared.Root.{Root}
-use Rattle.unify_links.specs.declared.Root.TheVariants.{None, Of}
+use Rattle.oce_model.specs.declared.ConnectorId.{ConnectorId}
 
 -- ---- roots
 
 -- a number for each root, and another for none
-abbrev number : Root → ℕ
+abbrev number : Option ConnectorId → ℕ
 number None = 0
-number (Of root) = suc root.0
+number (Some root) = suc root.0
 
 same-root : {q r : ℕ} → root_at q ≡ root_at r → q ≡ r
-same-root e = omega (arith, ap (λ (x : Root). number x) e)
+same-root e = omega (arith, ap (λ (x : Option ConnectorId). number x) e)
 
 no-root : {r : ℕ} → None ≡ root_at r → ⊥
-no-root e = omega (arith, ap (λ (x : Root). number x) e)
+no-root e = omega (arith, ap (λ (x : Option ConnectorId). number x) e)
 
 -- ---- by the layout
 
@@ -74,13 +75,13 @@ module _ {s : List ℕ} {l : Layout} (h : Laid s l) {ds : List ℕ} (g : Degrees
   unfolding connection_read
   same-to = ap (λ (c : Connection). c.to.0) eq
 
-  pub connection-drives : q.from.0 < l.connectors.count → q.to.0 < l.connectors.count → get_or ds q.to.0 0 ≡ 1 → Of q.from ≡ connection_root (model_of s) (connection (model_of s) k)
+  pub connection-drives : q.from.0 < l.connectors.count → q.to.0 < l.connectors.count → get_or ds q.to.0 0 ≡ 1 → Some q.from ≡ connection_root (model_of s) (connection (model_of s) k)
   unfolding connection_root drives in_range connection_read
   connection-drives a b e =
       let a' : (connection (model_of s) k).from < connector_count (model_of s) = rw (connectors-counted h, same_from) at a in
       let b' : (connection (model_of s) k).to < connector_count (model_of s) = rw (connectors-counted h, same-to) at b in
       let e' : get_or ds (connection (model_of s) k).to 0 ≡ 1 = rw same-to at e in
-      rw (lt-ltb _ _ a', lt-ltb _ _ b', eq-eqb _ _ (sym (g.each _ b') ∙ e')) (ap (λ (c : Connection). Of c.from) eq)
+      rw (lt-ltb _ _ a', lt-ltb _ _ b', eq-eqb _ _ (sym (g.each _ b') ∙ e')) (ap (λ (c : Connection). Some c.from) eq)
 
   pub connection-from : l.connectors.count ≤ q.from.0 → None ≡ connection_root (model_of s) (connection (model_of s) k)
   unfolding connection_root drives in_range
@@ -130,11 +131,11 @@ module _ {s : List ℕ} {l : Layout} (h : Laid s l) (i : ℕ) {q : BoundaryOutpu
     output-in e = rw (lt-ltb _ _ near, eq-eqb _ _ (sym same-dir ∙ e))
 
     module _ (at : ℕ) {k : ℕ} (d : c.dir ≡ dir_in → ⊥) (ea : attrs_at s at ≡ (boundary_output (model_of s) i).attrs) (ek : k ≡ (attrs_at s at).kind) where
-      pub output-sound : k ≡ c.value_type → Of q.source ≡ output_root (model_of s) (boundary_output (model_of s) i)
+      pub output-sound : k ≡ c.value_type → Some q.source ≡ output_root (model_of s) (boundary_output (model_of s) i)
       unfolding output_root sound output_read
       output-sound e =
           rw (lt-ltb _ _ near, ne_eqb _ _ (λ x. d (same-dir ∙ x)), eq-eqb _ _ (ap (λ a. a.kind) (sym ea) ∙ sym ek ∙ e ∙ same-type))
-          (ap (λ (o : BoundaryOutputFront). Of o.source) eq)
+          (ap (λ (o : BoundaryOutputFront). Some o.source) eq)
 
       pub output-other : (k ≡ c.value_type → ⊥) → None ≡ output_root (model_of s) (boundary_output (model_of s) i)
       unfolding output_root sound
@@ -142,13 +143,13 @@ module _ {s : List ℕ} {l : Layout} (h : Laid s l) (i : ℕ) {q : BoundaryOutpu
           rw (lt-ltb _ _ near, ne_eqb _ _ (λ x. d (same-dir ∙ x)), ne_eqb _ _ (λ x. e (ek ∙ ap (λ a. a.kind) ea ∙ x ∙ sym same-type)))
 
 module _ {s : List ℕ} {l : Layout} (h : Laid s l) {k : ℕ} where
-  pub root-connection : {r : Root} → k < l.connections.count → r ≡ connection_root (model_of s) (connection (model_of s) k) → r ≡ root_of (model_of s) k
+  pub root-connection : {r : Option ConnectorId} → k < l.connections.count → r ≡ connection_root (model_of s) (connection (model_of s) k) → r ≡ root_of (model_of s) k
   unfolding root_of
   root-connection a e =
       let a' : k < connection_count (model_of s) = rw (connections-counted h) at a in
       e ∙ rw (lt-ltb _ _ a')
 
-  pub root-output : {r : Root} → l.connections.count ≤ k → r ≡ output_root (model_of s) (boundary_output (model_of s) (k - l.connections.count)) → r ≡ root_of (model_of s) k
+  pub root-output : {r : Option ConnectorId} → l.connections.count ≤ k → r ≡ output_root (model_of s) (boundary_output (model_of s) (k - l.connections.count)) → r ≡ root_of (model_of s) k
   unfolding root_of
   root-output a e =
       let a' : connection_count (model_of s) ≤ k = rw (connections-counted h) at a in
@@ -211,9 +212,9 @@ member-miss : (m : Model) (r k : ℕ) → (root_of m k ≡ root_at r → ⊥) �
 unfolding member
 member-miss m r k n = arm (root_of m k) n
   where
-    arm : (x : Root) → (x ≡ root_at r → ⊥) → only (belongs x r) (target_of m k) ≡ []
+    arm : (x : Option ConnectorId) → (x ≡ root_at r → ⊥) → only (belongs x r) (target_of m k) ≡ []
     arm None n = refl
-    arm (Of root) n = rw (ne_eqb root.0 r (λ e. n (ap (λ (x : ℕ). root_at x) e)))
+    arm (Some root) n = rw (ne_eqb root.0 r (λ e. n (ap (λ (x : ℕ). root_at x) e)))
 
 skip : (m : Model) (r k : ℕ) → (root_of m k ≡ root_at r → ⊥) → each (k + 1) (member m r) ≡ each k (member m r)
 skip m r k n = each_next k (member m r) ∙ rw (member-miss m r k n, append-nil (each k (member m r)))
@@ -335,11 +336,11 @@ module _ (m : Model) (k r : ℕ) (h : k < link_count m) (e : root_of m k ≡ roo
       arm true t e = omega (arith, (connection-inside m (connection m k) r e).1)
       arm false t e = omega (arith, ltb-false k (connection_count m) t)
 
-module _ {m : Model} {k : ℕ} {head next : List ℕ} (v : Linked m (k + 1) head next) {x : Root} (e : x ≡ root_of m k) where
+module _ {m : Model} {k : ℕ} {head next : List ℕ} (v : Linked m (k + 1) head next) {x : Option ConnectorId} (e : x ≡ root_of m k) where
   pub link-skip : x ≡ None → Linked m k head next
   link-skip n = linked-skip v (sym n ∙ e)
 
-  module _ {root : ConnectorId} (of : x ≡ Of root) (b : k < link_count m) where
+  module _ {root : ConnectorId} (of : x ≡ Some root) (b : k < link_count m) where
     there : root.0 < connector_count m
     there = root-inside m k root.0 b (sym e ∙ of)
 

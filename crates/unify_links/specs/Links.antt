@@ -1,27 +1,28 @@
 -- Links, which join slots to the roots of their clusters (FORMAT 15), and lists of them. The links have one numbering: the connections, and behind them the boundary outputs.
+use Rattle.std.specs.Prelude.{Option}
+use Rattle.std.specs.Prelude.{None, Some}
 use Rattle.std.specs.Prelude.{ℕ, ◌+◌, ◌-◌, ◌≤◌, ◌<◌, ◌≡◌, Bool, false, cond, List, ◌∷◌, length, get_or, take, eqb, ltb}
 use Rattle.base.specs.Lists.{each, only}
 use Rattle.oce_model.specs.Model.{Connection, BoundaryOutput, Model, connection, boundary_output, connector_count, connection_count, boundary_output_count}
 use Rattle.unify.specs.Clusters.{drives, sound, driven}
 use Rattle.unify_slots.specs.Table.{slot_count, Inside}
-use Rattle.unify_links.specs.declared.Root.{Root}
-use Rattle.unify_links.specs.declared.Root.TheVariants.{None, Of}
+use Rattle.oce_model.specs.declared.ConnectorId.{ConnectorId}
 
 abbrev pub link_count : Model → ℕ
 link_count m = connection_count m + boundary_output_count m
 
 -- connector r as a root
-abbrev pub root_at : ℕ → Root
-root_at r = Of (record { 0 = r })
+abbrev pub root_at : ℕ → Option ConnectorId
+root_at r = Some (record { 0 = r })
 
 -- the root that a link belongs to, if any
-unfoldable pub connection_root : Model → Connection → Root
+unfoldable pub connection_root : Model → Connection → Option ConnectorId
 connection_root m k = cond (drives m k) (root_at k.from) None
 
-unfoldable pub output_root : Model → BoundaryOutput → Root
+unfoldable pub output_root : Model → BoundaryOutput → Option ConnectorId
 output_root m o = cond (sound m o) (root_at o.source) None
 
-unfoldable pub root_of : Model → ℕ → Root
+unfoldable pub root_of : Model → ℕ → Option ConnectorId
 root_of m k = cond (ltb k (connection_count m)) (connection_root m (connection m k)) (output_root m (boundary_output m (k - connection_count m)))
 
 -- the slot that it leads to
@@ -29,9 +30,9 @@ unfoldable pub target_of : Model → ℕ → ℕ
 target_of m k = cond (ltb k (connection_count m)) (connection m k).to (connector_count m + (k - connection_count m))
 
 -- a link with this root belongs to connector r
-abbrev pub belongs : Root → ℕ → Bool
+abbrev pub belongs : Option ConnectorId → ℕ → Bool
 belongs None r = false
-belongs (Of root) r = eqb root.0 r
+belongs (Some root) r = eqb root.0 r
 
 -- what link k adds to root r's cluster
 unfoldable pub member : Model → ℕ → ℕ → List ℕ

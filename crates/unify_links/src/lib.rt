@@ -12,17 +12,10 @@ use image_attributes::attrs_kind;
 use image_records::{boundary_output, boundary_output_attrs, connection, connector};
 use oce_model::{ConnectorId, DIR_IN};
 
-// The root of a link, if it has one.
-#[derive(Clone, Copy)]
-pub enum Root {
-    None,
-    Of(ConnectorId),
-}
-
 // ---- roots and targets
 
 // The root of connection k.
-fn connection_root(image: &[u8], layout: Layout, degrees: &[u32], k: usize) -> Root
+fn connection_root(image: &[u8], layout: Layout, degrees: &[u32], k: usize) -> Option<ConnectorId>
     requires { Laid image.now layout × Degrees (model_of image.now) degrees.now × (k < layout.connections.count) }
     ensures { result ≡ connection_root (model_of image.now) (connection (model_of image.now) k) }
 {
@@ -33,36 +26,36 @@ fn connection_root(image: &[u8], layout: Layout, degrees: &[u32], k: usize) -> R
     if (from.0 as usize) < n {
         if to < n {
             if degrees[to] == 1 {
-                return Root::Of(from);
+                return Some(from);
             }
         }
     }
-    Root::None
+    None
 }
 
 // The root of boundary output i.
-fn output_root(image: &[u8], layout: Layout, i: usize) -> Root
+fn output_root(image: &[u8], layout: Layout, i: usize) -> Option<ConnectorId>
     requires { Laid image.now layout × (i < layout.outputs.count) }
     ensures { result ≡ output_root (model_of image.now) (boundary_output (model_of image.now) i) }
 {
     let o = boundary_output(image, layout, i);
     let source = o.source;
     if layout.connectors.count <= source.0 as usize {
-        return Root::None;
+        return None;
     }
     let c = connector(image, layout, source);
     if c.dir == DIR_IN {
-        return Root::None;
+        return None;
     }
     let at = boundary_output_attrs(image, layout, i);
     if attrs_kind(image, at) == c.value_type {
-        return Root::Of(source);
+        return Some(source);
     }
-    Root::None
+    None
 }
 
 // The root of link k.
-fn root_of(image: &[u8], layout: Layout, degrees: &[u32], k: usize) -> Root
+fn root_of(image: &[u8], layout: Layout, degrees: &[u32], k: usize) -> Option<ConnectorId>
     requires { Laid image.now layout × Degrees (model_of image.now) degrees.now × (k < link_count (model_of image.now)) }
     ensures { result ≡ root_of (model_of image.now) k }
 {
@@ -111,8 +104,8 @@ fn link(
     ensures { Linked (model_of image.now) k head.new next.new }
 {
     match root_of(image, layout, degrees, k) {
-        Root::None => {}
-        Root::Of(root) => push(head, next, root, k),
+        None => {}
+        Some(root) => push(head, next, root, k),
     }
 }
 

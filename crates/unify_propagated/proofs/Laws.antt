@@ -16,7 +16,7 @@ use Rattle.oce_diag.specs.declared.Subject.{Subject}
 use Rattle.oce_diag.specs.Putting.{Put, Emits, Countable, Adds}
 use Rattle.oce_diag.proofs.Putting.{put-none, emits_start, emits-turn, emits-put, emits-few, emits-length}
 use Rattle.crossed_bounds.specs.Ranges.{range_of, crossed}
-use Rattle.crossed_bounds.specs.declared.Range.{Range}
+use Rattle.crossed_bounds.specs.Ends.{Range}
 use Rattle.unify.specs.Clusters.{is_root}
 use Rattle.unify.specs.Slots.{slot}
 use Rattle.unify.specs.Unify.{filled_slots, propagated_faults, propagated}

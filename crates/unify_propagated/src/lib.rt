@@ -14,7 +14,7 @@ ghost use Rattle.unify_slots.specs.Table.{view, Room};
 ghost use Rattle.oce_model.specs.Format.{most_connectors};
 ghost use Rattle.unify_propagated.specs.Propagated.{Stage, Tested, Propagated};
 
-use crossed_bounds::Range;
+use crossed_bounds::Bounds;
 use crossed_ranges::{integer_range, is_crossed, real_range};
 use image_accept::Layout;
 use oce_diag::{Counted, DiagCode, error, put};
@@ -27,7 +27,7 @@ const RULE: u8 = 6;
 const CROSSED_DETAIL: u8 = 8;
 
 // The range of slot j, with the defaults of the image's head: the Rust's `Bounds::of`.
-fn slot_range(image: &[u8], layout: Layout, slots: usize, table: &[u64], j: usize) -> Range
+fn slot_range(image: &[u8], layout: Layout, slots: usize, table: &[u64], j: usize) -> Option<Bounds>
     requires { Laid image.now layout × Room slots table.now × (j < slots) }
     ensures { result ≡ range_of (model_of image.now).defaults (slot (view slots table.now) j) }
 {
@@ -38,7 +38,7 @@ fn slot_range(image: &[u8], layout: Layout, slots: usize, table: &[u64], j: usiz
     if kind == INTEGER_KIND {
         return integer_range(int_at(slots, table, j), layout.min, layout.max);
     }
-    Range::Absent
+    None
 }
 
 // ---- roots

@@ -12,6 +12,6 @@ pub returns-in-None-hi : goal.returns-in-None-hi
 unfolding crossed_ends
 returns-in-None-hi c = search rules
 
-pub returns-in-Value-hi : goal.returns-in-Value-hi
+pub returns-in-Some-hi : goal.returns-in-Some-hi
 unfolding crossed_ends
-returns-in-Value-hi c = search (ends-both, rules)
+returns-in-Some-hi c = search (ends-both, rules)

@@ -8,10 +8,10 @@ pub bounds_crossed-requires : goal.bounds_crossed-requires
 unfolding crossed
 bounds_crossed-requires c = search rules
 
-pub returns-in-Absent : goal.returns-in-Absent
+pub returns-in-None : goal.returns-in-None
 unfolding crossed
-returns-in-Absent c = search rules
+returns-in-None c = search rules
 
-pub returns-in-Within : goal.returns-in-Within
+pub returns-in-Some : goal.returns-in-Some
 unfolding crossed
-returns-in-Within c = search (crossed-within, rules)
+returns-in-Some c = search (crossed-within, rules)

@@ -12,10 +12,10 @@ pub intersect_with-requires : goal.intersect_with-requires
 unfolding take_in
 intersect_with-requires c = search rules
 
-pub returns-in-Absent : goal.returns-in-Absent
+pub returns-in-None : goal.returns-in-None
 unfolding take_in
-returns-in-Absent c = search rules
+returns-in-None c = search rules
 
-pub returns-in-Within : goal.returns-in-Within
+pub returns-in-Some : goal.returns-in-Some
 unfolding take_in
-returns-in-Within c = search (take-in-within, rules)
+returns-in-Some c = search (take-in-within, rules)

@@ -12,9 +12,9 @@ pub returns-then-bounds_crossed : goal.returns-then-bounds_crossed
 unfolding uncrossed
 returns-then-bounds_crossed c = search (uncrossed-absent, rules)
 
-pub returns-in-Absent : goal.returns-in-Absent
+pub returns-in-None : goal.returns-in-None
 unfolding uncrossed
-returns-in-Absent c = search rules
+returns-in-None c = search rules
 
 pub returns-else-bounds_crossed : goal.returns-else-bounds_crossed
 unfolding uncrossed

@@ -11,5 +11,5 @@ push-requires c = (search head-there, search next-there)
 pub returns-in-None : goal.returns-in-None
 returns-in-None c = search mine
 
-pub returns-in-Of : goal.returns-in-Of
-returns-in-Of c = search mine
+pub returns-in-Some : goal.returns-in-Some
+returns-in-Some c = search mine
