@@ -96,15 +96,15 @@ module _ {p : Field → Bool} {s : List ℕ} {rest : List Field} (v : Searching 
       pub searching-next : b ≡ false → Searching p s later
       searching-next u = record { left = left-next v.left e; same = sym (first-later p f later (sym t ∙ u)) ∙ ap (first p) (sym e) ∙ v.same }
 
-      pub searching-found : b ≡ true → Some f.at ≡ (first p (fields s))
-      searching-found u = sym (ap (sym v.same ∙ ap (first p) e ∙ first-here p f later (sym t ∙ u)))
+      pub searching-found : b ≡ true → Some f.at ≡ first p (fields s)
+      searching-found u = sym (sym v.same ∙ ap (first p) e ∙ first-here p f later (sym t ∙ u))
 
   pub searching-none : rest ≡ [] → first p (fields s) ≡ None
   unfolding first
   searching-none e = sym v.same ∙ ap (first p) e
 
-  pub searching-end : rest ≡ [] → None ≡ (first p (fields s))
-  searching-end e = sym (ap (searching-none e))
+  pub searching-end : rest ≡ [] → None ≡ first p (fields s)
+  searching-end e = sym (searching-none e)
 
 -- ---- framing
 
@@ -112,17 +112,17 @@ module _ {p : Field → Bool} {s : List ℕ} {rest : List Field} (v : Searching 
 pub record Framing (s : List ℕ) (rest : List Field) (bad : Option ℕ) (end : ℕ) : Type 0 where
   pub left : Left s rest
   pub stopping : Stopping s rest end
-  pub found : option_or bad ((first bad_tag rest)) ≡ (first bad_tag (fields s))
+  pub found : option_or bad (first bad_tag rest) ≡ first bad_tag (fields s)
 
 pub framing-start : {s : List ℕ} {rest : List Field} → rest ≡ fields s → Framing s rest None 0
 framing-start {s} e = rw e (record { left = left-all s; stopping = stopping-start refl; found = refl })
 
-one_more : (bad : Option ℕ) (f : Field) (l : List Field) → option_or (option_or bad (then_some (bad_tag f) f.at)) ((first bad_tag l)) ≡ option_or bad ((first bad_tag (f ∷ l)))
+one_more : (bad : Option ℕ) (f : Field) (l : List Field) → option_or (option_or bad (then_some (bad_tag f) f.at)) (first bad_tag l) ≡ option_or bad (first bad_tag (f ∷ l))
 unfolding first
 one_more (Some at) f l = refl
 one_more None f l = arm (bad_tag f)
   where
-    arm : (b : Bool) → option_or (then_some b f.at) ((first bad_tag l)) ≡ (cond b (Some f.at) (first bad_tag l))
+    arm : (b : Bool) → option_or (then_some b f.at) (first bad_tag l) ≡ cond b (Some f.at) (first bad_tag l)
     arm true = refl
     arm false = refl
 
@@ -139,7 +139,7 @@ module _ {s : List ℕ} {rest : List Field} {bad : Option ℕ} {end : ℕ} (v : 
     framing-next t p q r = record {
       left = left-next v.left e;
       stopping = stopping-next v.stopping e r;
-      found = rw (q, p, t) (one_more bad f later) ∙ ap (λ l. option_or bad ((first bad_tag l))) (sym e) ∙ v.found;
+      found = rw (q, p, t) (one_more bad f later) ∙ ap (λ l. option_or bad (first bad_tag l)) (sym e) ∙ v.found;
     }
 
   module _ (e : rest ≡ []) where
@@ -150,7 +150,7 @@ module _ {s : List ℕ} {rest : List Field} {bad : Option ℕ} {end : ℕ} (v : 
     pub framing-whole : length s ≤ end → Ok bad ≡ framed s
     unfolding framed first
     framing-whole h =
-        let found : bad ≡ (first bad_tag (fields s)) = sym (none_more bad) ∙ ap (λ l. option_or bad ((first bad_tag l))) (sym e) ∙ v.found in
+        let found : bad ≡ first bad_tag (fields s) = sym (none_more bad) ∙ ap (λ l. option_or bad (first bad_tag l)) (sym e) ∙ v.found in
         sym (rw (stopping-end v.stopping e, le-ltb end (length s) h, ← found) refl)
 
 -- ---- the same search by `next_field`

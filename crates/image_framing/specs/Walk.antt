@@ -70,11 +70,6 @@ abbrev pub stop_after : ℕ → List Field → ℕ
 stop_after at [] = at
 stop_after at (f ∷ fs) = stop_after (end_of f) fs
 
--- an offset that a definition finds, as code gives it
-abbrev pub : Option ℕ → Option ℕ
-None = None
-(Some at) = Some at
-
 -- what framing finds
 unfoldable pub framed : List ℕ → Result (Option ℕ) ℕ
-framed s = cond (ltb (stop s) (length s)) (Err (stop s)) (Ok ((first bad_tag (fields s))))
+framed s = cond (ltb (stop s) (length s)) (Err (stop s)) (Ok (first bad_tag (fields s)))

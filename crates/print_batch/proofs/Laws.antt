@@ -40,7 +40,7 @@ unfolding output_after starts_with
 left s o {n = n} e q w =
     let h : batch_answer s (length o) ≡ Written n = sym e ∙ w in
     record {
-      clean = found-clean s (ap (sym (written-faultless s (length o) n h))) refl;
+      clean = found-clean s (sym (written-faultless s (length o) n h)) refl;
       long = written-needed s (length o) n h;
       behind = drop (length (batch_output s)) o;
       bytes = q ∙ rw h;
