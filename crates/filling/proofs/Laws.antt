@@ -4,19 +4,22 @@ use native.Mathlib.Numerals.{add-one}
 use native.Mathlib.Omega.{arith}
 use mathlib.Core.Path.{◌≡◌, refl, sym, ap, ◌∙◌}
 use mathlib.Core.List.{List, [], ◌∷◌, ◌++◌, append_assoc}
-use lib.ListN.{length, take, drop, length-append}
+use lib.ListN.{length, get_or, take, drop, length-append}
 use lib.Seq.{take-append-le, drop-append-le}
 use Rattle.base.specs.Lists.{steps}
 use Rattle.base.specs.Buffers.{patch, starts_with}
 use Rattle.base.proofs.Buffers.{patch-length, patch-patch}
+use Rattle.base.proofs.Members.{get_or-default}
 use Rattle.base.proofs.Patches.{patched, patched-next, patched-length}
 use Rattle.numbers.specs.Bytes.{byte_range, short_range, le_bytes}
 use Rattle.numbers.proofs.Bytes.{le_bytes-low, le_bytes-length}
 use Rattle.oce_model.specs.Format.{attrs_length, attrs_quantity_at, attrs_min_at, longest_image, quantity_bit, unit_bit, display_unit_bit, min_bit, max_bit, nominal_bit, connector_tag, connector_size, connector_attrs, boundary_output_tag, boundary_output_size, boundary_output_attrs, fixed_length}
 use Rattle.oce_model.specs.Image.{start_of}
-use Rattle.oce_model.specs.Attributes.{num, attrs_bytes}
+use Rattle.oce_model.specs.Attributes.{num, no_attrs, attrs_bytes}
 use Rattle.oce_model.specs.declared.Attrs.{Attrs}
 use Rattle.oce_model.specs.Model.{model_of}
+use Rattle.oce_model.specs.Refusals.{refusal}
+use Rattle.std.specs.Prelude.{None}
 use Rattle.oce_model.proofs.Accepted.{Accepted, accepted, connectors-length, outputs-length}
 use Rattle.oce_model.proofs.Attributes.{bytes-length}
 use Rattle.oce_model.proofs.Records.{nth-at}
@@ -24,11 +27,10 @@ use Rattle.image_accept.specs.Layout.{Laid, section_of, layout_of}
 use Rattle.image_accept.specs.declared.Layout.{Layout}
 use Rattle.image_records.proofs.Laws.{connectors-counted}
 use Rattle.unify.specs.Slots.{Slots, slot}
-use Rattle.unify_slots.specs.Table.{view, slot_count}
+use Rattle.unify_slots.specs.Table.{slot_count}
 use Rattle.outcome.specs.Filled.{with_slots}
 use Rattle.moved.proofs.Regions.{offset, connector_slots, output_slots, offset-connector, offset-out, slots-fit, slots_apart}
 use Rattle.moved.proofs.Refilled.{with_slots-is}
-use Rattle.filling.specs.Small.{Small}
 use Rattle.filling.specs.Parts.{lead_bytes, text_bytes, end_bytes}
 
 -- ---- bytes in three parts
@@ -68,14 +70,6 @@ module _ (s : List ℕ) (at : ℕ) (a : Attrs) where
   pub patch-attrs : {s₁ s₂ s₃ : List ℕ} → s₃ ≡ patch s₂ (at + attrs_min_at) (end_bytes a) → s₂ ≡ patch s₁ (at + attrs_quantity_at) (text_bytes a) → s₁ ≡ patch s at (lead_bytes a) → at + attrs_length ≤ length s → s₃ ≡ patch s at (attrs_bytes a)
   unfolding attrs_bytes lead_bytes text_bytes end_bytes le_bytes
   patch-attrs h g f fits = patch-three s at attrs_quantity_at attrs_min_at (lead_bytes a) (text_bytes a) (end_bytes a) h g f refl refl (omega arith)
-
--- kind and marks that are bytes
-module _ (σ : Slots) (j : ℕ) (small : Small σ) where
-  pub small-kind : {k : ℕ} → k ≡ (slot σ j).kind → k < byte_range
-  small-kind e = rw e (small.kinds j)
-
-  pub small-marks : {m : ℕ} → m ≡ (slot σ j).marks → m < byte_range
-  small-marks e = rw e (small.marks j)
 
 -- ---- where a slot's attributes stand
 
@@ -144,40 +138,40 @@ module _ (s : List ℕ) (acc : Accepted s) (σ : Slots) (b : List ℕ) where
       let f : offset s n + length (bytes_of σ n) ≤ length (patched s (offset s) (bytes_of σ) n) = omega (arith, sizes σ n, slots-fit s acc n l) in
       ap (λ t. patch t (offset s n) (bytes_of σ n)) (slots-start n (omega arith)) ∙ patch-start (patched s (offset s) (bytes_of σ) n) b (offset s n) (bytes_of σ n) f
 
--- the slots before j, of n, are written into a buffer that holds the image
-pub record Fills (image : List ℕ) (n : ℕ) (table filled₀ filled : List ℕ) (j : ℕ) : Type 0 where
+-- the slots before j are written into a buffer that holds the image
+pub record Fills (image : List ℕ) (σ : Slots) (filled₀ filled : List ℕ) (j : ℕ) : Type 0 where
   pub accepted : Accepted image
-  pub count : n ≡ connector_slots image + output_slots image
+  pub count : length σ ≡ connector_slots image + output_slots image
   pub fits : length image ≤ length filled
-  pub within : j ≤ n
-  pub same : filled ≡ patched filled₀ (offset image) (bytes_of (view n table)) j
+  pub same : filled ≡ patched filled₀ (offset image) (bytes_of σ) j
   pub long : length filled ≡ length filled₀
 
-pub fills-start : {image : List ℕ} {l : Layout} {n : ℕ} {table filled₀ : List ℕ} → Laid image l → n ≡ slot_count (model_of image) → length image ≤ length filled₀ → Fills image n table filled₀ filled₀ 0
+pub fills-start : {image : List ℕ} {σ : Slots} {filled₀ : List ℕ} → refusal image ≡ None → length σ ≡ slot_count (model_of image) → length image ≤ length filled₀ → Fills image σ filled₀ filled₀ 0
 unfolding patched steps
-fills-start h c f = record { accepted = acc h; count = c ∙ slots-all h; fits = f; within = omega arith; same = refl; long = refl }
+fills-start {image} h c f =
+    let a : Accepted image = accepted image h in
+    record { accepted = a; count = c ∙ rw (connectors-length image, outputs-length image); fits = f; same = refl; long = refl }
 
-module _ {image : List ℕ} {n : ℕ} {table filled₀ filled : List ℕ} {j : ℕ} (v : Fills image n table filled₀ filled j) where
-  pub fills-inside : j < n → j < slot_count (model_of image)
+module _ {image : List ℕ} {σ : Slots} {filled₀ filled : List ℕ} {j : ℕ} (v : Fills image σ filled₀ filled j) where
+  pub fills-inside : j < length σ → j < slot_count (model_of image)
   fills-inside h = rw (connectors-length image, outputs-length image) (omega (arith, v.count))
 
-  pub fills-fit : {at : ℕ} → at ≡ offset image j → j < n → at + attrs_length ≤ length filled
+  pub fills-fit : {at : ℕ} → at ≡ offset image j → j < length σ → at + attrs_length ≤ length filled
   fills-fit o h = omega (arith, slots-fit image v.accepted j (omega (arith, v.count)), v.fits)
 
-  pub fills-turn : {at : ℕ} {filled' : List ℕ} → filled' ≡ patch filled at (attrs_bytes (slot (view n table) j)) → at ≡ offset image j → j < n → length filled' ≡ length filled
-      → Fills image n table filled₀ filled' (j + 1)
-  unfolding bytes_of
-  fills-turn e o h l = record {
+  pub fills-turn : {at : ℕ} {filled' : List ℕ} (d : Attrs) → filled' ≡ patch filled at (attrs_bytes (get_or σ j d)) → at ≡ offset image j → j < length σ → length filled' ≡ length filled
+      → Fills image σ filled₀ filled' (j + 1)
+  unfolding bytes_of slot
+  fills-turn d e o h l = record {
     accepted = v.accepted;
     count = v.count;
     fits = omega (arith, v.fits);
-    within = omega arith;
-    same = e ∙ rw (o, v.same, add-one j) (sym (patched-next filled₀ (offset image) (bytes_of (view n table)) j));
+    same = e ∙ rw (get_or-default σ j d no_attrs h, o, v.same, add-one j) (sym (patched-next filled₀ (offset image) (bytes_of σ) j));
     long = l ∙ v.long;
   }
 
-  pub fills-done : (b : List ℕ) → filled₀ ≡ starts_with image b → n ≤ j → filled ≡ starts_with (with_slots image (view n table)) b
+  pub fills-done : (b : List ℕ) → filled₀ ≡ starts_with image b → j ≡ length σ → filled ≡ starts_with (with_slots image σ) b
   unfolding bytes_of
   fills-done b e h =
-      let q : j ≡ connector_slots image + output_slots image = omega (arith, v.within, v.count) in
-      v.same ∙ rw (e, q, with_slots-is image (view n table)) (slots-start image v.accepted (view n table) b (connector_slots image + output_slots image) (omega arith))
+      let q : j ≡ connector_slots image + output_slots image = h ∙ v.count in
+      v.same ∙ rw (e, q, with_slots-is image σ) (slots-start image v.accepted σ b (connector_slots image + output_slots image) (omega arith))

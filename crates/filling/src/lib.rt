@@ -1,4 +1,4 @@
-// The filled image (FORMAT 17): the attributes of slots that stand in a table, written over those of the image.
+// The filled image (FORMAT 17): the attributes of slots, written over those of the image.
 #![tactic(auto)]
 
 ghost use Rattle.std.specs.Prelude.{◌≡◌, ◌+◌, ◌*◌, ◌≤◌, ◌<◌, length, get_or};
@@ -6,67 +6,59 @@ ghost use Rattle.base.specs.Buffers.{patch, starts_with};
 ghost use Rattle.oce_model.specs.Format.{attrs_length, longest_image};
 ghost use Rattle.oce_model.specs.Attributes.{attrs_bytes};
 ghost use Rattle.oce_model.specs.Model.{model_of};
-ghost use Rattle.image_accept.specs.Layout.{Laid};
-ghost use Rattle.unify.specs.Slots.{slot};
-ghost use Rattle.unify_slots.specs.Table.{view, slot_count, Room};
+ghost use Rattle.unify_slots.specs.Table.{slot_count};
 ghost use Rattle.outcome.specs.Filled.{slot_offsets, with_slots};
-ghost use Rattle.filling.specs.Small.{Small};
 ghost use Rattle.filling.specs.Parts.{lead_bytes, text_bytes, end_bytes};
 
 use base::copy_at;
-use image_accept::{Layout, Section};
-use numbers::{SHORT_RANGE_U64, write16, write64};
+use image_accept::Section;
+use image_records::Image;
+use numbers::{LittleEndian, SHORT_RANGE_U64};
 use oce_model::{
-    ATTRS_MIN_AT, ATTRS_QUANTITY_AT, BOUNDARY_OUTPUT_ATTRS, BOUNDARY_OUTPUT_SIZE, CONNECTOR_ATTRS,
-    CONNECTOR_SIZE, DISPLAY_UNIT_BIT, MAX_BIT, MIN_BIT, NOMINAL_BIT, QUANTITY_BIT, UNIT_BIT,
+    ATTRS_MIN_AT, ATTRS_QUANTITY_AT, Attrs, BOUNDARY_OUTPUT_ATTRS, BOUNDARY_OUTPUT_SIZE,
+    CONNECTOR_ATTRS, CONNECTOR_SIZE, DISPLAY_UNIT_BIT, MAX_BIT, MIN_BIT, NOMINAL_BIT, QUANTITY_BIT,
+    UNIT_BIT,
 };
-use unify_slots::{kind_at, marks_at, number};
 
-// Kind and marks of slot j.
-fn store_lead(filled: &mut [u8], at: usize, slots: usize, table: &[u64], j: usize)
-    requires { (at + 2 ≤ length filled.old) × Room slots table.now × Small (view slots table.now) × (j < slots) }
-    ensures { filled.new ≡ patch filled.old at (lead_bytes (slot (view slots table.now) j)) }
+// Kind and marks of a slot.
+fn store_lead(filled: &mut [u8], at: usize, slot: &Attrs)
+    requires { at + 2 ≤ length filled.old }
+    ensures { filled.new ≡ patch filled.old at (lead_bytes slot.now) }
 {
-    let kind = kind_at(slots, table, j);
-    let marks = marks_at(slots, table, j);
-    let lead: [u8; 2] = [kind as u8, marks as u8];
-    copy_at(filled, at, &lead);
+    copy_at(filled, at, &[slot.kind, slot.marks]);
 }
 
 // Its text numbers, by their low 16 bits.
-fn store_texts(filled: &mut [u8], at: usize, slots: usize, table: &[u64], j: usize)
-    requires { (at + 6 ≤ length filled.old) × Room slots table.now × (j < slots) }
-    ensures { filled.new ≡ patch filled.old at (text_bytes (slot (view slots table.now) j)) }
+fn store_texts(filled: &mut [u8], at: usize, slot: &Attrs)
+    requires { at + 6 ≤ length filled.old }
+    ensures { filled.new ≡ patch filled.old at (text_bytes slot.now) }
 {
-    let quantity = number(slots, table, j, QUANTITY_BIT);
-    let unit = number(slots, table, j, UNIT_BIT);
-    let display = number(slots, table, j, DISPLAY_UNIT_BIT);
-    write16(filled, at, (quantity % SHORT_RANGE_U64) as u16);
-    write16(filled, at + 2, (unit % SHORT_RANGE_U64) as u16);
-    write16(filled, at + 4, (display % SHORT_RANGE_U64) as u16);
+    let quantity = (slot.nums[QUANTITY_BIT] % SHORT_RANGE_U64) as u16;
+    let unit = (slot.nums[UNIT_BIT] % SHORT_RANGE_U64) as u16;
+    let display = (slot.nums[DISPLAY_UNIT_BIT] % SHORT_RANGE_U64) as u16;
+    quantity.write(filled, at);
+    unit.write(filled, at + 2);
+    display.write(filled, at + 4);
 }
 
 // Its numbers of 64 bits.
-fn store_ends(filled: &mut [u8], at: usize, slots: usize, table: &[u64], j: usize)
-    requires { (at + 24 ≤ length filled.old) × Room slots table.now × (j < slots) }
-    ensures { filled.new ≡ patch filled.old at (end_bytes (slot (view slots table.now) j)) }
+fn store_ends(filled: &mut [u8], at: usize, slot: &Attrs)
+    requires { at + 24 ≤ length filled.old }
+    ensures { filled.new ≡ patch filled.old at (end_bytes slot.now) }
 {
-    let min = number(slots, table, j, MIN_BIT);
-    let max = number(slots, table, j, MAX_BIT);
-    let nominal = number(slots, table, j, NOMINAL_BIT);
-    write64(filled, at, min);
-    write64(filled, at + 8, max);
-    write64(filled, at + 16, nominal);
+    slot.nums[MIN_BIT].write(filled, at);
+    slot.nums[MAX_BIT].write(filled, at + 8);
+    slot.nums[NOMINAL_BIT].write(filled, at + 16);
 }
 
-// The attributes of slot j.
-fn store_slot(filled: &mut [u8], at: usize, slots: usize, table: &[u64], j: usize)
-    requires { (at + attrs_length ≤ length filled.old) × Room slots table.now × Small (view slots table.now) × (j < slots) }
-    ensures { filled.new ≡ patch filled.old at (attrs_bytes (slot (view slots table.now) j)) }
+// All of it.
+fn store_slot(filled: &mut [u8], at: usize, slot: &Attrs)
+    requires { at + attrs_length ≤ length filled.old }
+    ensures { filled.new ≡ patch filled.old at (attrs_bytes slot.now) }
 {
-    store_lead(filled, at, slots, table, j);
-    store_texts(filled, at + ATTRS_QUANTITY_AT, slots, table, j);
-    store_ends(filled, at + ATTRS_MIN_AT, slots, table, j);
+    store_lead(filled, at, slot);
+    store_texts(filled, at + ATTRS_QUANTITY_AT, slot);
+    store_ends(filled, at + ATTRS_MIN_AT, slot);
 }
 
 // Where the attributes of record i of a section stand, by the size of its records and what stands before.
@@ -78,16 +70,22 @@ fn attrs_at(section: Section, size: usize, i: usize, lead: usize) -> usize
 }
 
 // Where the attributes of slot j stand.
-pub fn slot_offset(image: &[u8], layout: Layout, j: usize) -> usize
-    requires { Laid image.now layout × (j < slot_count (model_of image.now)) }
+pub fn slot_offset(image: &Image, j: usize) -> usize
+    requires { j < slot_count (model_of image.now) }
     ensures { result ≡ get_or (slot_offsets image.now) j 0 }
 {
-    let c = layout.connectors;
-    if j < c.count {
-        return attrs_at(c, CONNECTOR_SIZE, j, CONNECTOR_ATTRS);
+    let layout = image.layout();
+    let connectors = layout.connectors;
+    if j < connectors.count {
+        attrs_at(connectors, CONNECTOR_SIZE, j, CONNECTOR_ATTRS)
+    } else {
+        attrs_at(
+            layout.outputs,
+            BOUNDARY_OUTPUT_SIZE,
+            j - connectors.count,
+            BOUNDARY_OUTPUT_ATTRS,
+        )
     }
-    let o = layout.outputs;
-    attrs_at(o, BOUNDARY_OUTPUT_SIZE, j - c.count, BOUNDARY_OUTPUT_ATTRS)
 }
 
 // The image alone: what a report with an error leaves.
@@ -98,16 +96,13 @@ pub fn copy_image(image: &[u8], filled: &mut [u8])
     copy_at(filled, 0, image);
 }
 
-// The image with the attributes of the table's slots, all it has.
-pub fn fill_image(image: &[u8], layout: Layout, slots: usize, table: &[u64], filled: &mut [u8])
-    requires { Laid image.now layout × (slots ≡ slot_count (model_of image.now)) × Room slots table.now × Small (view slots table.now) × (length image.now ≤ length filled.old) }
-    ensures { filled.new ≡ starts_with (with_slots image.now (view slots table.now)) filled.old }
+// The image with the attributes of slots, all it has.
+pub fn fill_image(image: &Image, slots: &[Attrs], filled: &mut [u8])
+    requires { (length slots.now ≡ slot_count (model_of image.now)) × (length image.now ≤ length filled.old) }
+    ensures { filled.new ≡ starts_with (with_slots image.now slots.now) filled.old }
 {
-    copy_image(image, filled);
-    let mut j = 0;
-    while j < slots {
-        let at = slot_offset(image, layout, j);
-        store_slot(filled, at, slots, table, j);
-        j += 1;
+    copy_image(image.bytes(), filled);
+    for (j, slot) in slots.iter().enumerate() {
+        store_slot(filled, slot_offset(image, j), slot);
     }
 }

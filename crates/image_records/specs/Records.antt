@@ -1,6 +1,6 @@
 -- The records of a model as code has them, by value: what of the model's record each holds. The front of a record is what stands before its ports or its attributes.
 use Rattle.std.specs.Prelude.{length}
-pub use Rattle.oce_model.specs.Attributes.{real_attrs, int_attrs}
+unfoldable pub use Rattle.oce_model.specs.Attributes.{real_attrs, int_attrs}
 use Rattle.oce_model.specs.Model.{Block, Connector, Connection as ModelConnection, BoundaryOutput}
 use Rattle.oce_model.specs.declared.BlockFront.{BlockFront}
 use Rattle.oce_model.specs.declared.ConnectorFront.{ConnectorFront}

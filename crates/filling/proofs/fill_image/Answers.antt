@@ -1,19 +1,20 @@
--- `filling::fill_image` meets its contract.
-use borrow.Author.Rules.{rules}
+use Rattle.std.proofs.Common.{◌≡◌, length, arith, rules}
 use Rattle.filling.proofs.Laws.{fills-start, fills-inside, fills-fit, fills-turn, fills-done}
 use Rattle.filling.proofs.fill_image.Goals as goal
 
 pub loop-j-init : goal.loop-j-init
-loop-j-init c = let p = c.requires in fills-start p.0 p.1 (search rules)
+loop-j-init c = fills-start c.bytes.ensures.accepted c.requires.0 (search rules)
 
-pub slot_offset-at-requires : goal.slot_offset-at-requires
-slot_offset-at-requires c = (search rules, fills-inside c.loop-j.invariant (search rules))
+pub slot_offset-requires : goal.slot_offset-requires
+slot_offset-requires c = fills-inside c.loop-j.invariant (search rules)
 
 pub store_slot-requires : goal.store_slot-requires
-store_slot-requires c = let v = c.loop-j.invariant in (fills-fit v c.slot_offset-at.ensures (search rules), search rules, search rules, search rules)
+store_slot-requires c = fills-fit c.loop-j.invariant c.slot_offset.ensures (search rules)
 
 pub loop-j-preserved : goal.loop-j-preserved
-loop-j-preserved c = let v = c.loop-j.invariant in fills-turn v c.store_slot.ensures c.slot_offset-at.ensures (search rules) (search rules)
+loop-j-preserved c = fills-turn c.loop-j.invariant _ c.store_slot.ensures c.slot_offset.ensures (search rules) (search rules)
 
 pub returns : goal.returns
-returns c = fills-done c.loop-j.invariant _ c.copy_image.ensures (search rules)
+returns c =
+    let e : c.loop-j.j ≡ length c.args.slots.now = omega arith in
+    fills-done c.loop-j.invariant _ (rw c.bytes.ensures.bytes at c.copy_image.ensures) e

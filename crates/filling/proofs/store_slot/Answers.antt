@@ -1,5 +1,4 @@
--- `filling::store_slot` meets its contract.
-use borrow.Author.Rules.{rules}
+use Rattle.std.proofs.Common.{rules}
 use Rattle.filling.proofs.Laws.{patch-attrs}
 use Rattle.filling.proofs.store_slot.Goals as goal
 
