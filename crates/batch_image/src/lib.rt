@@ -3,68 +3,42 @@
 
 ghost use Rattle.std.specs.Prelude.{◌≡◌, ◌+◌, ◌≤◌, length};
 ghost use Rattle.base.specs.Buffers.{patch, starts_with};
-ghost use Rattle.oce_model.specs.Format.{text_tag, block_tag};
-ghost use Rattle.image_accept.specs.Layout.{Laid, Tabled};
-ghost use Rattle.oce_validate.specs.Answered.{few_slots};
+ghost use Rattle.oce_model.specs.Model.{model_of};
+ghost use Rattle.unify_slots.specs.Slots.{slot_count};
 ghost use Rattle.batch.specs.Output.{summary_size, summary_bytes, image_output};
 ghost use Rattle.batch_image.specs.Summarized.{Counting, Summed, Summarized, size_of, most_bytes, Placed};
 
 use base::copy_at;
 use batch::{SUMMARY_LENGTH, SUMMARY_SIZE, SUMMARY_TAG, Summary};
-use image_accept::{Acceptance, Layout, accept};
+use image_records::Image;
 use numbers::BYTE_RANGE_U32;
 use oce_diag::{Counted, DIAGNOSTIC_SIZE};
 use oce_model::{MOST_BLOCKS, MOST_TEXTS};
-use oce_validate::{FEW_PLACES, FEW_SLOTS, MOST_PLACES};
+use oce_validate::{FEW_SLOTS, MOST_SLOTS};
 use rules::run;
+use unify_slots::{NO_ATTRS, slot_count};
 
 // ---- the check
 
-// Runs all rules over a report, where slots are few.
-fn run_few<'a>(
-    image: &'a [u8],
-    layout: Layout,
-    texts: &'a [usize],
-    blocks: &[usize],
-    report: &mut [u8],
-) -> Counted
-    requires { Laid image.now layout × Tabled text_tag image.now texts.now × Tabled block_tag image.now blocks.now × (layout.connectors.count + layout.outputs.count ≤ few_slots) }
+// Runs all rules over a report, with a table for so many slots.
+fn run_in<const SLOTS: usize>(image: &Image, report: &mut [u8]) -> Counted
+    requires { slot_count (model_of image.now) ≤ SLOTS }
     ensures { Counting image.now report.old report.new result }
 {
-    let mut table = [0u64; FEW_PLACES];
-    run(image, layout, texts, blocks, &mut table, report)
-}
-
-// The same for any number of slots.
-fn run_many<'a>(
-    image: &'a [u8],
-    layout: Layout,
-    texts: &'a [usize],
-    blocks: &[usize],
-    report: &mut [u8],
-) -> Counted
-    requires { Laid image.now layout × Tabled text_tag image.now texts.now × Tabled block_tag image.now blocks.now }
-    ensures { Counting image.now report.old report.new result }
-{
-    let mut table = [0u64; MOST_PLACES];
-    run(image, layout, texts, blocks, &mut table, report)
+    let mut table = [NO_ATTRS; SLOTS];
+    let slots = slot_count(image);
+    run(image, &mut table[..slots], report)
 }
 
 // An accepted image.
-fn run_accepted<'a>(
-    image: &'a [u8],
-    layout: Layout,
-    texts: &'a [usize; MOST_TEXTS],
-    blocks: &[usize; MOST_BLOCKS],
-    report: &mut [u8],
-) -> Counted
-    requires { Laid image.now layout × Tabled text_tag image.now texts.now × Tabled block_tag image.now blocks.now }
+fn run_accepted(image: &Image, report: &mut [u8]) -> Counted
     ensures { Counting image.now report.old report.new result }
 {
-    if layout.connectors.count + layout.outputs.count <= FEW_SLOTS {
-        return run_few(image, layout, texts, blocks, report);
+    if slot_count(image) <= FEW_SLOTS {
+        run_in::<FEW_SLOTS>(image, report)
+    } else {
+        run_in::<MOST_SLOTS>(image, report)
     }
-    run_many(image, layout, texts, blocks, report)
 }
 
 // Sums up the check of any byte string; the report holds its diagnostics, if it has room for them all.
@@ -73,16 +47,15 @@ fn summarize_into(image: &[u8], report: &mut [u8]) -> Summary
 {
     let mut texts = [0usize; MOST_TEXTS];
     let mut blocks = [0usize; MOST_BLOCKS];
-    let acceptance = accept(image, &mut texts, &mut blocks);
-    match acceptance {
-        Acceptance::Refused { number, at } => Summary {
-            refusal: number,
-            at,
+    match Image::accept(image, &mut texts, &mut blocks) {
+        Err(refusal) => Summary {
+            refusal: refusal.number,
+            at: refusal.at,
             errors: 0,
             warnings: 0,
         },
-        Acceptance::Accepted(layout) => {
-            let c = run_accepted(image, layout, &texts, &blocks, report);
+        Ok(image) => {
+            let c = run_accepted(&image, report);
             Summary {
                 refusal: 0,
                 at: 0,
@@ -123,27 +96,26 @@ pub fn size_of(r: Summary) -> usize
 fn encode(r: Summary) -> [u8; SUMMARY_SIZE]
     ensures { result ≡ summary_bytes r }
 {
-    let refusal = r.refusal;
-    let at = r.at;
-    let errors = r.errors;
-    let warnings = r.warnings;
+    let [a0, a1, a2, a3] = r.at.to_le_bytes();
+    let [e0, e1, e2, e3] = r.errors.to_le_bytes();
+    let [w0, w1, w2, w3] = r.warnings.to_le_bytes();
     [
         SUMMARY_TAG,
         SUMMARY_LENGTH as u8,
         0,
-        (refusal % BYTE_RANGE_U32) as u8,
-        (at % BYTE_RANGE_U32) as u8,
-        (at / BYTE_RANGE_U32 % BYTE_RANGE_U32) as u8,
-        (at / BYTE_RANGE_U32 / BYTE_RANGE_U32 % BYTE_RANGE_U32) as u8,
-        (at / BYTE_RANGE_U32 / BYTE_RANGE_U32 / BYTE_RANGE_U32 % BYTE_RANGE_U32) as u8,
-        (errors % BYTE_RANGE_U32) as u8,
-        (errors / BYTE_RANGE_U32 % BYTE_RANGE_U32) as u8,
-        (errors / BYTE_RANGE_U32 / BYTE_RANGE_U32 % BYTE_RANGE_U32) as u8,
-        (errors / BYTE_RANGE_U32 / BYTE_RANGE_U32 / BYTE_RANGE_U32 % BYTE_RANGE_U32) as u8,
-        (warnings % BYTE_RANGE_U32) as u8,
-        (warnings / BYTE_RANGE_U32 % BYTE_RANGE_U32) as u8,
-        (warnings / BYTE_RANGE_U32 / BYTE_RANGE_U32 % BYTE_RANGE_U32) as u8,
-        (warnings / BYTE_RANGE_U32 / BYTE_RANGE_U32 / BYTE_RANGE_U32 % BYTE_RANGE_U32) as u8,
+        (r.refusal % BYTE_RANGE_U32) as u8,
+        a0,
+        a1,
+        a2,
+        a3,
+        e0,
+        e1,
+        e2,
+        e3,
+        w0,
+        w1,
+        w2,
+        w3,
     ]
 }
 

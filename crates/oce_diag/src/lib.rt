@@ -12,7 +12,7 @@ ghost use Rattle.oce_diag.specs.Decoded.{severity_of, code_of, subject_from, dec
 mod report;
 
 use base::copy_at;
-use numbers::{BYTE_RANGE_U32, at32, byte_at};
+use numbers::{at32, byte_at};
 use oce_model::{BlockId, ConnectorId, LEADING_BYTES, NO_TEXT};
 pub use report::Report;
 
@@ -202,31 +202,28 @@ pub fn subject_number(s: Subject) -> u32
 fn encode(d: Diagnostic) -> [u8; DIAGNOSTIC_SIZE]
     ensures { result ≡ diagnostic_bytes d }
 {
-    let severity = d.severity;
-    let code = d.code;
-    let subject = d.subject;
-    let number = subject_number(subject);
-    let place = d.place;
+    let [n0, n1, n2, n3] = subject_number(d.subject).to_le_bytes();
+    let [p0, p1, p2, p3] = d.place.to_le_bytes();
     [
         DIAGNOSTIC_TAG,
         DIAGNOSTIC_LENGTH as u8,
         0,
-        severity_number(severity),
-        code_number(code),
+        severity_number(d.severity),
+        code_number(d.code),
         d.rule,
         d.detail,
-        subject_kind(subject),
+        subject_kind(d.subject),
         0,
         0,
         0,
-        (number % BYTE_RANGE_U32) as u8,
-        (number / BYTE_RANGE_U32 % BYTE_RANGE_U32) as u8,
-        (number / BYTE_RANGE_U32 / BYTE_RANGE_U32 % BYTE_RANGE_U32) as u8,
-        (number / BYTE_RANGE_U32 / BYTE_RANGE_U32 / BYTE_RANGE_U32 % BYTE_RANGE_U32) as u8,
-        (place % BYTE_RANGE_U32) as u8,
-        (place / BYTE_RANGE_U32 % BYTE_RANGE_U32) as u8,
-        (place / BYTE_RANGE_U32 / BYTE_RANGE_U32 % BYTE_RANGE_U32) as u8,
-        (place / BYTE_RANGE_U32 / BYTE_RANGE_U32 / BYTE_RANGE_U32 % BYTE_RANGE_U32) as u8,
+        n0,
+        n1,
+        n2,
+        n3,
+        p0,
+        p1,
+        p2,
+        p3,
     ]
 }
 

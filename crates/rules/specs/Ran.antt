@@ -1,9 +1,7 @@
 -- What a run over all rules gives.
-use Rattle.std.specs.Prelude.{ℕ, ◌+◌, ◌*◌, ◌≤◌, ◌≡◌, List}
-use Rattle.oce_model.specs.Format.{text_tag, block_tag, most_connectors, most_connections, most_boundary_outputs}
-use Rattle.oce_model.specs.Model.{Model, model_of}
-use Rattle.image_accept.specs.Layout.{Laid, Tabled}
-use Rattle.image_accept.specs.declared.Layout.{Layout}
+use Rattle.std.specs.Prelude.{ℕ, ◌+◌, ◌*◌, ◌<◌, ◌≤◌, ◌≡◌, List, length}
+use Rattle.oce_model.specs.Format.{most_connectors, most_connections, most_boundary_outputs}
+use Rattle.oce_model.specs.Model.{Model, connector_count}
 use Rattle.oce_diag.specs.declared.Counted.{Counted}
 use Rattle.oce_diag.specs.Putting.{total, Put}
 use Rattle.structural_arena_ids.specs.PerRecord.{most_arena_faults}
@@ -11,20 +9,16 @@ use Rattle.structural_wiring.specs.PerRecord.{most_output_faults, most_connectio
 use Rattle.structural_assignment.specs.PerRecord.{most_assignment_faults}
 use Rattle.crossed_records.specs.Most.{most_crossed}
 use Rattle.unify.specs.Unify.{filled_slots}
-use Rattle.unify_slots.specs.Table.{slot_count, view, Room}
+use Rattle.unify.specs.Slots.{Slots}
+use Rattle.structural_externals.specs.Columns.{half}
 use Rattle.unify_clusters.specs.Unified.{most_unified_faults}
 use Rattle.outcome.specs.Report.{report}
 
--- an accepted image with its layout and the offsets of its texts and blocks, and a table with room for its slots
-pub record Ready (image : List ℕ) (layout : Layout) (texts blocks table : List ℕ) : Type 0 where
-  pub laid : Laid image layout
-  pub text-table : Tabled text_tag image texts
-  pub block-table : Tabled block_tag image blocks
-  pub room : Room (slot_count (model_of image)) table
-
--- so many connectors, and so many external inputs, have shorter columns
-abbrev pub few_records : ℕ
-few_records = 192
+-- columns of c entries for in-degrees and of e for external ids have room for a model
+pub record Roomy (m : Model) (c e : ℕ) : Type 0 where
+  pub connectors : connector_count m ≤ c
+  pub externals : length m.external_inputs ≤ half e
+  pub halves : half e + half e < e
 
 -- nothing counted
 abbrev pub none : Counted
@@ -44,9 +38,8 @@ most_before6 = most_first_two + most_second_two + most_crossed
 abbrev pub most_diagnostics : ℕ
 most_diagnostics = most_before6 + most_unified_faults
 
--- the table holds the slots after all roots, and a report b has become b' by all diagnostics of a model, c of them
-pub record Ran (m : Model) (table b b' : List ℕ) (c : Counted) : Type 0 where
-  pub slots : view (slot_count m) table ≡ filled_slots m
-  pub room : Room (slot_count m) table
+-- the slots are those after all roots, and a report b has become b' by all diagnostics of a model, c of them
+pub record Ran (m : Model) (σ : Slots) (b b' : List ℕ) (c : Counted) : Type 0 where
+  pub slots : σ ≡ filled_slots m
   pub put : Put b none (report m) b' c
   pub few : total c ≤ most_diagnostics
