@@ -19,6 +19,10 @@ word_range = 4294967296
 abbrev pub long_range : ℕ
 long_range = 18446744073709551616
 
+-- the most bytes that a number has
+abbrev pub longest : ℕ
+longest = 8
+
 -- the byte at an offset, 0 past the end
 abbrev pub byte : List ℕ → ℕ → ℕ
 byte s at = get_or s at 0

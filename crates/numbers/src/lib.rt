@@ -2,10 +2,10 @@
 #![tactic(auto)]
 
 ghost use Rattle.std.specs.Prelude.{◌≡◌, ℕ, ◌+◌, ◌≤◌, ◌<◌, List, [], ◌∷◌, length};
+ghost use Rattle.std.proofs.Common.{rules};
 ghost use Rattle.std.specs.Float.Ieee.Scale.{finite};
 ghost use Rattle.base.specs.Buffers.{patch};
-ghost use Rattle.numbers.specs.Bytes.{byte_range, short_range, word_range, byte, le16, le32, le64, le_bytes, bit, signed64, real64};
-ghost use Rattle.std.proofs.Common.{rules};
+ghost use Rattle.numbers.specs.Bytes.{byte_range, short_range, word_range, longest, byte, le16, le32, le64, le_bytes, bit, signed64, real64};
 ghost use Rattle.numbers.specs.Same.{byte_same, le_same};
 
 use base::{copy_at, part_of};
@@ -14,7 +14,7 @@ use std::num::f64_from_bits_with_nan;
 // The most bytes that a number has.
 const LONGEST: usize = 8;
 
-// How many numbers a byte can hold, and two bytes.
+// How many numbers a byte can hold, and how many two bytes can.
 pub const BYTE_RANGE_U32: u32 = 256;
 
 pub const SHORT_RANGE_U64: u64 = 65536;
@@ -54,7 +54,7 @@ pub trait LittleEndian: Copy {
         read_ending(s, at)
     }
 
-    ghost fits: { SIZE ≤ 8 };
+    ghost fits: { SIZE ≤ longest };
 
     // The same bytes are the same number.
     ghost same: { (s t : List ℕ) (a b : ℕ) → ((i : ℕ) → i < SIZE → byte s (a + i) ≡ byte t (b + i)) → le s a ≡ le t b };
@@ -215,7 +215,7 @@ pub fn wide(x: u8) -> usize
     usize::from(x)
 }
 
-// One byte.
+// The byte at an index.
 pub fn read8(s: &[u8], at: usize) -> usize
     requires { at < length s.now }
     ensures { (result ≡ byte s.now at) × (result < byte_range) }
@@ -223,7 +223,7 @@ pub fn read8(s: &[u8], at: usize) -> usize
     usize::from(u8::read(s, at))
 }
 
-// Two bytes.
+// The number of two bytes from index at on.
 pub fn read16(s: &[u8], at: usize) -> usize
     requires { at + 2 ≤ length s.now }
     ensures { (result ≡ le16 s.now at) × (result < short_range) }
@@ -231,7 +231,7 @@ pub fn read16(s: &[u8], at: usize) -> usize
     usize::from(u16::read(s, at))
 }
 
-// Four.
+// Of four.
 pub fn read32(s: &[u8], at: usize) -> usize
     requires { at + 4 ≤ length s.now }
     ensures { (result ≡ le32 s.now at) × (result < word_range) }
@@ -239,7 +239,7 @@ pub fn read32(s: &[u8], at: usize) -> usize
     u32::read(s, at) as usize
 }
 
-// Eight.
+// Of eight.
 pub fn read64(s: &[u8], at: usize) -> u64
     requires { at + 8 ≤ length s.now }
     ensures { result ≡ le64 s.now at }
@@ -247,35 +247,35 @@ pub fn read64(s: &[u8], at: usize) -> u64
     u64::read(s, at)
 }
 
-// One byte at any index.
+// The byte at any index.
 pub fn byte_at(s: &[u8], at: usize) -> usize
     ensures { (result ≡ byte s.now at) × (result < byte_range) }
 {
     usize::from(u8::read_padded(s, at))
 }
 
-// Two bytes.
+// The number of two bytes from any index on.
 pub fn at16(s: &[u8], at: usize) -> usize
     ensures { (result ≡ le16 s.now at) × (result < short_range) }
 {
     usize::from(u16::read_padded(s, at))
 }
 
-// Four.
+// Of four.
 pub fn at32(s: &[u8], at: usize) -> usize
     ensures { (result ≡ le32 s.now at) × (result < word_range) }
 {
     u32::read_padded(s, at) as usize
 }
 
-// Eight.
+// Of eight.
 pub fn at64(s: &[u8], at: usize) -> u64
     ensures { result ≡ le64 s.now at }
 {
     u64::read_padded(s, at)
 }
 
-// Writes two bytes.
+// Writes a number of two bytes from index at on.
 pub fn write16(s: &mut [u8], at: usize, v: u16)
     requires { at + 2 ≤ length s.old }
     ensures { s.new ≡ patch s.old at (le_bytes 2 v) }
@@ -283,7 +283,7 @@ pub fn write16(s: &mut [u8], at: usize, v: u16)
     v.write(s, at);
 }
 
-// Four.
+// Of four.
 pub fn write32(s: &mut [u8], at: usize, v: u32)
     requires { at + 4 ≤ length s.old }
     ensures { s.new ≡ patch s.old at (le_bytes 4 v) }
@@ -291,7 +291,7 @@ pub fn write32(s: &mut [u8], at: usize, v: u32)
     v.write(s, at);
 }
 
-// Eight.
+// Of eight.
 pub fn write64(s: &mut [u8], at: usize, v: u64)
     requires { at + 8 ≤ length s.old }
     ensures { s.new ≡ patch s.old at (le_bytes 8 v) }
