@@ -1,4 +1,4 @@
--- The order of the integers, and that 64 bits stand for a number that fits them.
+-- The order of the integers: `lt` one way is `le` refused the other way, and `le` is transitive.
 use mathlib.Core.Path.{◌≡◌, refl}
 use mathlib.Core.Bool.{true, false, false≢true, true≢false}
 use native.Mathlib.Omega.{arith}
