@@ -1,9 +1,6 @@
 -- `oce_diag::encode` meets its contract: the bytes are those of the definition, one by one.
-use borrow.Author.Rules.{rules}
-use Rattle.numbers.specs.Bytes.{le_bytes}
-use Rattle.oce_diag.specs.Encoding.{diagnostic_bytes}
+use Rattle.oce_diag.proofs.Encoding.{encoded}
 use Rattle.oce_diag.proofs.encode.Goals as goal
 
 pub returns : goal.returns
-unfolding diagnostic_bytes le_bytes
-returns c = rw (c.to_le_bytes.ensures, c.to_le_bytes-2.ensures) (cc)
+returns c = encoded _ c.severity_number.ensures c.code_number.ensures c.subject_kind.ensures c.subject_number.ensures c.to_le_bytes.ensures c.to_le_bytes-2.ensures
