@@ -15,10 +15,7 @@ use Rattle.oce_diag.specs.Encoding.{diagnostic_size}
 use Rattle.oce_diag.specs.declared.Counted.{Counted}
 use Rattle.oce_diag.proofs.Encoding.{report_bytes-length}
 use Rattle.oce_diag.proofs.Putting.{put-errors, put-warnings, put-room}
-use Rattle.image_accept.specs.Layout.{Laid, acceptance, accepts}
-use Rattle.image_accept.specs.declared.Layout.{Layout}
-use Rattle.image_accept.specs.declared.Acceptance.{Acceptance}
-use Rattle.image_accept.specs.declared.Acceptance.TheVariants as accepting
+use Rattle.unify.specs.Slots.{Slots}
 use Rattle.outcome.specs.Answer.{report_of}
 use Rattle.rules.specs.Ran.{Ran}
 use Rattle.batch.specs.Output.{summary_size, summary_by, summary_of, report_by, image_report, summary_bytes, image_output}
@@ -28,39 +25,23 @@ use Rattle.batch_image.specs.Summarized.{Counting, Summarized, Summed, Placed, s
 
 -- ---- the check
 
-pub counting : {s table b b' : List ℕ} {l : Layout} {c : Counted} → Laid s l → Ran (model_of s) table b b' c → Counting s b b' c
+pub counting : {s b b' : List ℕ} {σ : Slots} {c : Counted} → refusal s ≡ None → Ran (model_of s) σ b b' c → Counting s b b' c
 unfolding report_of
 counting h q = record {
-  accepted = h.accepted;
+  accepted = h;
   errors = put-errors q.put refl;
   warnings = put-warnings q.put refl;
   few = q.few;
   bytes = λ l. put-room q.put refl l;
 }
 
-abbrev refused_as : ℕ → ℕ → Summary
-refused_as n at = record { refusal = n; at = at; errors = 0; warnings = 0 }
-
-away : (s : List ℕ) (n at : ℕ) (o : Option Refusal) → accepts s o ≡ accepting.Refused n at → refused_as n at ≡ summary_by s o
-away s n at None h = let z : ◌≡◌ {A = ℕ} 0 1 = cc in absurd (omega arith)
-away s n at (Some r) h =
-    let p : r.number ≡ n = cc in
-    let q : r.offset ≡ at = cc in
-    rw (p, q)
-
-no-report : (s : List ℕ) (n at : ℕ) (o : Option Refusal) → accepts s o ≡ accepting.Refused n at → report_by s o ≡ []
-no-report s n at None h = let z : ◌≡◌ {A = ℕ} 0 1 = cc in absurd (omega arith)
-no-report s n at (Some r) h = refl
-
 -- turned away: the report stays as it is
-pub summed-refused : {s : List ℕ} (b : List ℕ) {a : Acceptance} {n at : ℕ} → a ≡ acceptance s → a ≡ accepting.Refused n at → Summed s b b (record { refusal = n; at = at; errors = 0; warnings = 0 })
-unfolding summary_of image_report acceptance
-summed-refused {s} b {n = n} {at} e h =
-    let None : report_by s (refusal s) ≡ [] = no-report s n at (refusal s) (sym e ∙ h) in
-    record {
-      summarized = record { is = away s n at (refusal s) (sym e ∙ h); few = omega arith };
-      bytes = λ l. sym (ap (λ x. starts_with x b) None ∙ starts_with-none b);
-    }
+pub summed-refused : {s : List ℕ} (b : List ℕ) {n at : ℕ} → refusal s ≡ Some (record { number = n; offset = at }) → Summed s b b (record { refusal = n; at = at; errors = 0; warnings = 0 })
+unfolding summary_of image_report
+summed-refused {s} b h = record {
+  summarized = record { is = rw h; few = omega arith };
+  bytes = rw h (λ l. sym (starts_with-none b));
+}
 
 -- counted, and written if it fits
 pub summed-counted : {s b b' : List ℕ} {c : Counted} → Counting s b b' c → Summed s b b' (record { refusal = 0; at = 0; errors = c.errors; warnings = c.warnings })

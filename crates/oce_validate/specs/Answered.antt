@@ -6,14 +6,10 @@ use Rattle.oce_diag.specs.Putting.{total}
 use Rattle.oce_diag.specs.Encoding.{report_bytes}
 use Rattle.oce_diag.specs.declared.Counted.{Counted}
 use Rattle.unify.specs.Unify.{filled_slots}
-use Rattle.unify_slots.specs.Table.{slot_count, view, Room}
+use Rattle.unify.specs.Slots.{Slots}
 use Rattle.outcome.specs.Answer.{report_of, report_size, answer, filled_after, report_after}
 use Rattle.outcome.specs.declared.Answer.{Answer}
 use Rattle.rules.specs.Ran.{most_diagnostics}
-
--- so many slots have a shorter table
-abbrev pub few_slots : ℕ
-few_slots = 192
 
 -- the answer and both buffers after a call: s is the image, f and r the buffers at entry, f' and r' at exit
 pub record Answered (s f r : List ℕ) (a : Answer) (f' r' : List ℕ) : Type 0 where
@@ -21,13 +17,12 @@ pub record Answered (s f r : List ℕ) (a : Answer) (f' r' : List ℕ) : Type 0 
   pub filled : f' ≡ filled_after s f r
   pub report : r' ≡ report_after s f r
 
--- the diagnostics of an image, counted, and a table of its slots after all roots
-pub record Tallied (s table : List ℕ) (c : Counted) : Type 0 where
+-- the diagnostics of an image, counted, and its slots after all roots
+pub record Tallied (s : List ℕ) (σ : Slots) (c : Counted) : Type 0 where
   pub errors : c.errors ≡ errors (report_of s)
   pub warnings : c.warnings ≡ warnings (report_of s)
   pub few : total c ≤ most_diagnostics
-  pub slots : view (slot_count (model_of s)) table ≡ filled_slots (model_of s)
-  pub room : Room (slot_count (model_of s)) table
+  pub slots : σ ≡ filled_slots (model_of s)
 
 -- a buffer that holds an image's report, if that fits
 pub record Early (s b : List ℕ) : Type 0 where

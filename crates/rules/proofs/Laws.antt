@@ -29,16 +29,6 @@ use Rattle.unify_clusters.specs.Unified.{Unified}
 use Rattle.outcome.specs.Report.{report, rules_before6}
 use Rattle.rules.specs.Ran.{few_records, none, most_before6, Ran}
 
--- rules 1 and 2, 3 and 4, and 5 are the rules before rule 6
-before-is : (m : Model) → (rule1 m ++ rule2 m) ++ (rule3 m ++ rule4 m) ++ rule5 m ≡ rules_before6 m
-unfolding rules_before6
-before-is m = ap (λ l. l ++ rule5 m) (sym (append_assoc (rule1 m ++ rule2 m) (rule3 m) (rule4 m)))
-
-module _ (s : List ℕ) {b b' b'' b''' : List ℕ} {c c' c'' c''' : Counted} where
-  pub ran-before : Put b c (rule1 (model_of s) ++ rule2 (model_of s)) b' c' → Put b' c' (rule3 (model_of s) ++ rule4 (model_of s)) b'' c'' → Put b'' c'' (rule5 (model_of s)) b''' c'''
-      → Put b c (rules_before6 (model_of s)) b''' c'''
-  ran-before p q r = rw (← (before-is (model_of s))) (put_then (put_then p q) r)
-
 -- a list holds an error exactly if errors are counted in it
 counted-errors : (ds : List Diagnostic) → ltb 0 (errors ds) ≡ has_error ds
 counted-errors ds = arm (ℕ_discrete (errors ds) 0)
@@ -55,15 +45,8 @@ ran-put m {b} {b'} {b''} {c'} {c''} p q =
     let g : ltb 0 c'.errors ≡ has_error (rules_before6 m) = ap (ltb 0) f ∙ counted-errors (rules_before6 m) in
     put_then p (rw g at q)
 
-module _ {s : List ℕ} {l : Layout} (h : Laid s l) where
-  pub ran : {table b b' b'' : List ℕ} {c' c'' : Counted} → Put b none (rules_before6 (model_of s)) b' c' → Adds most_before6 none c'
-      → Unified (model_of s) (slot_count (model_of s)) table b' c' b'' c'' → Ran (model_of s) table b b'' c''
-  ran p few u = record {
-    slots = u.slots;
-    room = u.room;
-    put = ran-put (model_of s) p u.put;
-    few = (let n = connectors-few h in let k = connectors-counted h in let q = u.few in omega arith);
-  }
+pub ran : {m : Model} {σ : Slots} {b b' : List ℕ} {r r' : Report} → Puts most_before6 (rules_before6 m) r r' → r.bytes.now ≡ b → r.counted ≡ none → Unified m σ r' b' → Ran m σ b b'
+ran = ?
 
 -- ---- what the arrays hold at first
 
@@ -85,11 +68,14 @@ nothing-listed m c n e room few =
       rest = refl;
     }
 
-module _ {s : List ℕ} {l : Layout} (h : Laid s l) where
-  pub nothing-of-few : l.externals.count ≤ few_records → Lists (model_of s) 0 0 (replicate (2 * few_records + 1) 0)
-  unfolding half
-  nothing-of-few k = nothing-listed (model_of s) (2 * few_records + 1) few_records refl (omega arith) (omega (arith, externals-counted h))
+pub nothing-in : {m : Model} {c e : ℕ} → Roomy m c e → Lists m 0 0 (replicate e 0)
+nothing-in {m} {c} {e} h = nothing-listed m e (half e) refl h.halves h.externals
 
-  pub nothing-of-many : Lists (model_of s) 0 0 (replicate (2 * most_external_inputs + 1) 0)
-  unfolding half
-  nothing-of-many = nothing-listed (model_of s) (2 * most_external_inputs + 1) most_external_inputs refl (omega arith) (omega (arith, externals-counted h, externals-few h))
+-- columns of two sizes
+pub roomy-few : {m : Model} → connector_count m ≤ few_records → length m.external_inputs ≤ few_records → Roomy m few_records (2 * few_records + 1)
+unfolding half
+roomy-few h k = record { connectors = h; externals = k; halves = omega arith }
+
+pub roomy-most : {m : Model} → connector_count m ≤ most_connectors → length m.external_inputs ≤ most_external_inputs → Roomy m most_connectors (2 * most_external_inputs + 1)
+unfolding half
+roomy-most h k = record { connectors = h; externals = k; halves = omega arith }

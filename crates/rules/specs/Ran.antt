@@ -14,6 +14,10 @@ use Rattle.structural_externals.specs.Columns.{half}
 use Rattle.unify_clusters.specs.Unified.{most_unified_faults}
 use Rattle.outcome.specs.Report.{report}
 
+-- so many connectors, and so many external inputs, have shorter columns
+abbrev pub few_records : ℕ
+few_records = 192
+
 -- columns of c entries for in-degrees and of e for external ids have room for a model
 pub record Roomy (m : Model) (c e : ℕ) : Type 0 where
   pub connectors : connector_count m ≤ c
