@@ -1,5 +1,5 @@
 -- `structural_arena_ids::connector_faults` meets its contract.
-use borrow.Author.Rules.{rules}
+use Rattle.std.proofs.Common.{rules}
 use Rattle.structural_arena_ids.proofs.Laws.{connector-put}
 use Rattle.structural_arena_ids.proofs.connector_faults.Goals as goal
 
