@@ -3,8 +3,9 @@ use Prim.Native.Nat.{ℕ, ◌*◌, ◌≤◌}
 use native.Mathlib.Omega.{arith}
 use mathlib.Core.Path.{◌≡◌, refl}
 use mathlib.Core.Bool.{not}
+use Rattle.std.proofs.lemmas.Bool.Decides.{nat_tests}
 use mathlib.Core.List.{List}
-use lib.Dec.{eqb, ltb}
+use lib.Dec.{eqb, ltb, leb}
 use lib.ListN.{length, get_or}
 use Rattle.base.specs.Lists.{each, only}
 use Rattle.oce_model.specs.Format.{most_ports, most_blocks, most_connectors}
@@ -23,12 +24,16 @@ use Rattle.image_records.specs.declared.blocks.Block.{Block}
 use Rattle.structural.specs.Structural.{port_faults, block_faults, connector_faults, rule1}
 use Rattle.structural_arena_ids.specs.PerRecord.{port_fault, most_block_faults, most_connector_faults, most_arena_faults}
 
+-- n is at most i, in place of: i isn't below n
+beyond : (n i : ℕ) → leb n i ≡ not (ltb i n)
+beyond n i = grind (arith, nat_tests)
+
 -- a port
 pub port-put : (n detail j : ℕ) (ids : List ℕ) (subject : Subject) {id : ℕ} {x : Diagnostic} {r r' : Report}
-    → Puts 1 (only (not (ltb id n)) x) r r' → id ≡ get_or ids j 0 → x ≡ error MalformedDocument 1 detail subject j
+    → Puts 1 (only (leb n id) x) r r' → id ≡ get_or ids j 0 → x ≡ error MalformedDocument 1 detail subject j
     → Puts 1 (port_fault n subject detail ids j) r r'
 unfolding port_fault
-port-put n detail j ids subject p e f = rw (← e, ← f) p
+port-put n detail j ids subject {id} p e f = rw (← e, ← f, ← beyond n id) p
 
 -- the ports of a block, one by one
 pub ports-each : (m : Model) (b : ModelBlock) (detail : ℕ) (ids : List ℕ)
@@ -53,12 +58,12 @@ block-put m k i e en es ex p q t =
 pub connector-put : (m : Model) (k : Connector) (i : ℕ) {n : ℕ} {c : ConnectorFront} {subject : Subject} {x y : Diagnostic} {r r₁ r₂ : Report}
     → c ≡ connector_read k → n ≡ block_count m → subject ≡ connector_subject c.iri c.id
     → x ≡ error MalformedDocument 1 4 subject i → y ≡ error MalformedDocument 1 5 subject i
-    → Puts 1 (only (not (eqb c.id.0 i)) x) r r₁ → Puts 1 (only (not (ltb c.block.0 n)) y) r₁ r₂
+    → Puts 1 (only (not (eqb c.id.0 i)) x) r r₁ → Puts 1 (only (leb n c.block.0) y) r₁ r₂
     → Puts most_connector_faults (connector_faults m i k) r r₂
 unfolding connector_faults connector_read subject_of
-connector-put m k i e en es ex ey p q =
+connector-put m k i {n} {c} e en es ex ey p q =
     let f = rw e at es in
-    puts-then (rw (ex, f, e) at p) (rw (ey, f, e, en) at q)
+    puts-then (rw (ex, f, e) at p) (rw (beyond n c.block.0, ey, f, e, en) at q)
 
 -- all blocks, then all connectors
 pub rule1-put : (m : Model) {i j b c : ℕ} {r r₁ r₂ : Report}

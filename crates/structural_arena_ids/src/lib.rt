@@ -35,7 +35,7 @@ fn port_faults(ids: &Ids, n: usize, subject: Subject, detail: u8, report: &mut R
 {
     for j in 0..ids.count() {
         let outside = error(DiagCode::MalformedDocument, RULE, detail, subject, j as u32);
-        report.put_if(!(ids.id(j) < n), outside);
+        report.put_if(ids.id(j) >= n, outside);
     }
 }
 
@@ -66,7 +66,7 @@ pub fn connector_faults(image: &Image, i: ConnectorId, report: &mut Report)
     let own = error(DiagCode::MalformedDocument, RULE, CONNECTOR_ID, subject, i.0);
     report.put_if(c.id.0 != i.0, own);
     let outside = error(DiagCode::MalformedDocument, RULE, CONNECTOR_BLOCK, subject, i.0);
-    report.put_if(!((c.block.0 as usize) < n), outside);
+    report.put_if(c.block.0 as usize >= n, outside);
 }
 
 // ---- rule 1

@@ -1,19 +1,11 @@
 -- `structural_wiring::connection_faults` meets its contract: both ends are connectors or not.
-use borrow.Author.Rules.{rules}
-use Rattle.structural_wiring.proofs.Laws.{connection-inside, connection-outside, from-within, to-within, connection-number}
+use Rattle.std.proofs.Common.{rules}
+use Rattle.structural_wiring.proofs.Laws.{connection-inside, from-outside, to-outside}
 use Rattle.structural_wiring.proofs.connection_faults.Goals as goal
+use Rattle.structural_wiring.proofs.connection_faults.Goals.{else-c-n-via-then-c-n+else-c-n-2, else-c-n-via-else-c-n}
 
-pub overflow_cast-k : goal.overflow_cast-k
-overflow_cast-k c = search (connection-number, rules)
+pub returns-then-c-n-2 : goal.returns-then-c-n-2
+returns-then-c-n-2 c = search (connection-inside, rules)
 
-pub end_faults-requires : goal.end_faults-requires
-end_faults-requires c = search (from-within, to-within, rules)
-
-pub returns-then-in_range : goal.returns-then-in_range
-returns-then-in_range c = search (connection-inside, rules)
-
-pub overflow_cast-k-2 : goal.overflow_cast-k-2
-overflow_cast-k-2 c = search (connection-number, rules)
-
-pub returns : goal.returns
-returns c = search (connection-outside, rules)
+pub returns-else-c-n : goal.returns-else-c-n
+returns-else-c-n c = elim c.else-c-n.branch [ else-c-n-via-then-c-n+else-c-n-2 w ↦ search (to-outside, rules) | else-c-n-via-else-c-n w ↦ search (from-outside, rules) ]
