@@ -10,7 +10,8 @@ ghost use Rattle.structural.specs.Structural.{block_faults, connector_faults, ru
 ghost use Rattle.structural_arena_ids.specs.PerRecord.{port_fault, most_block_faults, most_connector_faults, most_arena_faults};
 
 use image_records::{Ids, Image};
-use oce_diag::{DiagCode, Report, Subject, block_subject_of, error, subject_of};
+use oce_diag::DiagCode::MalformedDocument;
+use oce_diag::{Report, Subject, block_subject_of, error, subject_of};
 use oce_model::{BlockId, ConnectorId};
 
 // The number of this rule, and of each detail that it gives.
@@ -28,13 +29,14 @@ const CONNECTOR_BLOCK: u8 = 5;
 
 // ---- blocks
 
-// The Rust's `check_block_port_ids`, of the ids of a block's inputs or outputs, in a model of n connectors.
+// The Rust's `check_block_port_ids`, of the ids of a block's inputs or of its outputs, in a model of n
+// connectors.
 fn port_faults(ids: &Ids, n: usize, subject: Subject, detail: u8, report: &mut Report)
     requires { Room most_ports report.old }
     ensures { Puts most_ports (each (length ids.now) (port_fault n subject detail ids.now)) report.old report.new }
 {
     for j in 0..ids.count() {
-        let outside = error(DiagCode::MalformedDocument, RULE, detail, subject, j as u32);
+        let outside = error(MalformedDocument, RULE, detail, subject, j as u32);
         report.put_if(ids.id(j) >= n, outside);
     }
 }
@@ -47,7 +49,7 @@ pub fn block_faults(image: &Image, i: BlockId, report: &mut Report)
     let b = image.block(i);
     let n = image.connector_count();
     let subject = block_subject_of(b.instance, b.id);
-    let own = error(DiagCode::MalformedDocument, RULE, BLOCK_ID, subject, i.0);
+    let own = error(MalformedDocument, RULE, BLOCK_ID, subject, i.0);
     report.put_if(b.id.0 != i.0, own);
     port_faults(&b.inputs, n, subject, INPUT, report);
     port_faults(&b.outputs, n, subject, OUTPUT, report);
@@ -63,9 +65,9 @@ pub fn connector_faults(image: &Image, i: ConnectorId, report: &mut Report)
     let c = image.connector(i);
     let n = image.block_count();
     let subject = subject_of(c.iri, c.id);
-    let own = error(DiagCode::MalformedDocument, RULE, CONNECTOR_ID, subject, i.0);
+    let own = error(MalformedDocument, RULE, CONNECTOR_ID, subject, i.0);
     report.put_if(c.id.0 != i.0, own);
-    let outside = error(DiagCode::MalformedDocument, RULE, CONNECTOR_BLOCK, subject, i.0);
+    let outside = error(MalformedDocument, RULE, CONNECTOR_BLOCK, subject, i.0);
     report.put_if(c.block.0 as usize >= n, outside);
 }
 

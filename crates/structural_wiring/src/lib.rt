@@ -10,11 +10,13 @@ ghost use Rattle.structural.specs.Structural.{output_faults, rule2, connection_f
 ghost use Rattle.structural_wiring.specs.PerRecord.{most_output_faults, most_connection_faults};
 
 use image_records::Image;
-use oce_diag::{DiagCode, Report, Subject, error, subject_of};
+use oce_diag::DiagCode::{DirectionMismatch, MalformedDocument, TypeMismatch};
+use oce_diag::{Report, Subject, error, subject_of};
 use oce_model::{ConnectorFront, Dir};
 
-// The numbers of these rules, and of the details that each gives.
-const OUTPUT_RULE: u8 = 2;
+// The numbers of these rules, and of the details that each gives: of a boundary output's source, and of
+// the ends of a connection.
+const RULE_2: u8 = 2;
 
 const SOURCE_OUTSIDE: u8 = 1;
 
@@ -22,9 +24,9 @@ const SOURCE_INWARDS: u8 = 2;
 
 const SOURCE_KIND: u8 = 3;
 
-const CONNECTION_RULE: u8 = 4;
+const RULE_4: u8 = 4;
 
-const END_OUTSIDE: u8 = 1;
+const OUTSIDE: u8 = 1;
 
 const FROM_INWARDS: u8 = 2;
 
@@ -46,12 +48,13 @@ pub fn output_faults(image: &Image, i: usize, report: &mut Report)
     if (o.source.0 as usize) < image.connector_count() {
         let own = image.boundary_output_attrs(i).kind as usize;
         let c = image.connector(o.source);
-        let inwards = error(DiagCode::DirectionMismatch, OUTPUT_RULE, SOURCE_INWARDS, subject, place);
+        let inwards = error(DirectionMismatch, RULE_2, SOURCE_INWARDS, subject, place);
         report.put_if(c.dir == Dir::In as usize, inwards);
-        let other = error(DiagCode::MalformedDocument, OUTPUT_RULE, SOURCE_KIND, subject, place);
+        let other = error(MalformedDocument, RULE_2, SOURCE_KIND, subject, place);
         report.put_if(own != c.value_type, other);
     } else {
-        report.put(error(DiagCode::MalformedDocument, OUTPUT_RULE, SOURCE_OUTSIDE, subject, place));
+        let outside = error(MalformedDocument, RULE_2, SOURCE_OUTSIDE, subject, place);
+        report.put(outside);
     }
 }
 
@@ -88,14 +91,14 @@ pub fn connection_faults(image: &Image, k: usize, report: &mut Report)
         let b = image.connector(c.to);
         let from = subject_of(a.iri, a.id);
         let to = subject_of(b.iri, b.id);
-        let inwards = error(DiagCode::DirectionMismatch, CONNECTION_RULE, FROM_INWARDS, from, place);
+        let inwards = error(DirectionMismatch, RULE_4, FROM_INWARDS, from, place);
         report.put_if(a.dir == Dir::In as usize, inwards);
-        let outwards = error(DiagCode::DirectionMismatch, CONNECTION_RULE, TO_OUTWARDS, to, place);
+        let outwards = error(DirectionMismatch, RULE_4, TO_OUTWARDS, to, place);
         report.put_if(b.dir != Dir::In as usize, outwards);
-        let other = error(DiagCode::TypeMismatch, CONNECTION_RULE, TYPES_DIFFER, to, place);
+        let other = error(TypeMismatch, RULE_4, TYPES_DIFFER, to, place);
         report.put_if(!same_type(a, b), other);
     } else {
-        let outside = error(DiagCode::MalformedDocument, CONNECTION_RULE, END_OUTSIDE, Subject::Nothing, place);
+        let outside = error(MalformedDocument, RULE_4, OUTSIDE, Subject::Nothing, place);
         report.put(outside);
     }
 }
