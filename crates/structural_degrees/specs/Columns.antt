@@ -9,11 +9,6 @@ use Rattle.structural_degrees.specs.Counted.{portion, absent}
 
 -- ---- degrees
 
--- the first i entries of ds₀ set to 0
-pub record Clears (ds₀ : List ℕ) (i : ℕ) (ds : List ℕ) : Type 0 where
-  pub same : length ds ≡ length ds₀
-  pub zeros : (j : ℕ) → j < i → get_or ds j 0 ≡ 0
-
 -- a portion that holds the k connections from number first on
 pub record Reads (m : Model) (first k : ℕ) (list : List Connection) : Type 0 where
   pub long : length list ≡ portion

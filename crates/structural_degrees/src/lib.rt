@@ -2,14 +2,13 @@
 // a time as a list of pairs, and counted in one pass.
 #![tactic(auto)]
 
-ghost use Rattle.std.specs.Prelude.{◌≡◌, ◌≤◌, ◌+◌, ◌<◌, length};
+ghost use Rattle.std.specs.Prelude.{◌≡◌, ◌≤◌, ◌+◌, ◌<◌, length, min};
 ghost use Rattle.structural_degrees.specs.Counted.{portion, counted, Spare};
-ghost use Rattle.oce_model.specs.Model.{model_of};
-ghost use Rattle.image_accept.specs.Layout.{Laid};
-ghost use Rattle.structural_degrees.specs.Columns.{Clears, Reads, Counts, Degrees};
+ghost use Rattle.oce_model.specs.Format.{most_connections};
+ghost use Rattle.oce_model.specs.Model.{model_of, connection_count, connector_count};
+ghost use Rattle.structural_degrees.specs.Columns.{Reads, Counts, Degrees};
 
-use image_accept::Layout;
-use image_records::connection;
+use image_records::Image;
 use oce_model::{Connection, ConnectorId};
 
 // So many connections are lent at once.
@@ -22,88 +21,48 @@ pub fn add_degrees(connections: &[Connection], degrees: &mut [u32])
     requires { Spare degrees.old (length connections.now) }
     ensures { degrees.new ≡ counted degrees.old connections.now (length connections.now) }
 {
-    let mut i = 0;
-    while i < connections.len() {
-        let to = connections[i].to.0 as usize;
+    for c in connections {
+        let to = c.to.0 as usize;
         if to < degrees.len() {
             degrees[to] += 1;
         }
-        i += 1;
     }
-}
-
-// The same of the first n of a portion, which are lent as a list.
-pub fn add_portion(connections: [Connection; PORTION], n: usize, degrees: &mut [u32])
-    requires { (n ≤ portion) × Spare degrees.old n }
-    ensures { degrees.new ≡ counted degrees.old connections n }
-{
-    add_degrees(&connections[..n], degrees)
 }
 
 // ---- the connections of an image
 
 // The n connections from number `first` on, in their order.
-fn read_connections(image: &[u8], layout: Layout, first: usize, n: usize) -> [Connection; PORTION]
-    requires { Laid image.now layout × (n ≤ portion) × (first + n ≤ layout.connections.count) }
+fn read_connections(image: &Image, first: usize, n: usize) -> [Connection; PORTION]
+    requires { (n ≤ portion) × (first + n ≤ connection_count (model_of image.now)) × (first + n ≤ most_connections) }
     ensures { Reads (model_of image.now) first n result }
 {
     let mut list = [Connection {
         from: ConnectorId(0),
         to: ConnectorId(0),
     }; PORTION];
-    let mut k = 0;
-    while k < n {
-        let c = connection(image, layout, first + k);
-        list[k] = c;
-        k += 1;
+    for k in 0..n {
+        list[k] = image.connection(first + k);
     }
     list
 }
 
-// How many of `count` connections the portion from number `first` on has.
-fn portion_length(first: usize, count: usize) -> usize
-    requires { first < count }
-    ensures { (0 < result) × (result ≤ portion) × (first + result ≤ count) }
+// Counts the portion from number `first` on.
+fn count_portion(image: &Image, first: usize, degrees: &mut [u32])
+    requires { (first < connection_count (model_of image.now)) × Counts (model_of image.now) first degrees.old }
+    ensures { Counts (model_of image.now) (min (first + portion) (connection_count (model_of image.now))) degrees.new × (length degrees.new ≡ length degrees.old) }
 {
-    let rest = count - first;
-    if rest < PORTION {
-        return rest;
-    }
-    PORTION
-}
-
-// Counts the portion from number k on. How many connections are then counted.
-fn count_portion(image: &[u8], layout: Layout, k: usize, degrees: &mut [u32]) -> usize
-    requires { Laid image.now layout × (k < layout.connections.count) × Counts (model_of image.now) k degrees.old }
-    ensures { Counts (model_of image.now) result degrees.new × (k < result) × (result ≤ layout.connections.count) × (length degrees.new ≡ length degrees.old) }
-{
-    let connections = layout.connections;
-    let n = portion_length(k, connections.count);
-    let list = read_connections(image, layout, k, n);
-    add_portion(list, n, degrees);
-    k + n
-}
-
-// All entries are 0.
-fn clear(degrees: &mut [u32])
-    ensures { Clears degrees.old (length degrees.old) degrees.new }
-{
-    let mut i = 0;
-    while i < degrees.len() {
-        degrees[i] = 0;
-        i += 1;
-    }
+    let n = PORTION.min(image.connection_count() - first);
+    let list = read_connections(image, first, n);
+    add_degrees(&list[..n], degrees);
 }
 
 // How many connections lead to each connector.
-pub fn in_degrees(image: &[u8], layout: Layout, degrees: &mut [u32])
-    requires { Laid image.now layout × (layout.connectors.count ≤ length degrees.old) }
+pub fn in_degrees(image: &Image, degrees: &mut [u32])
+    requires { connector_count (model_of image.now) ≤ length degrees.old }
     ensures { Degrees (model_of image.now) degrees.new × (length degrees.new ≡ length degrees.old) }
 {
-    let connections = layout.connections;
-    clear(degrees);
-    let mut k = 0;
-    while k < connections.count {
-        k = count_portion(image, layout, k, degrees);
+    degrees.fill(0);
+    for first in (0..image.connection_count()).step_by(PORTION) {
+        count_portion(image, first, degrees);
     }
 }
