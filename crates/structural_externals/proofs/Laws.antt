@@ -13,11 +13,8 @@ use borrow.Author.Tests.{eq-eqb, ne_eqb, le-leb, lt-leb, leb-false}
 use Rattle.base.specs.Lists.{any, keep}
 use Rattle.base.proofs.Lists.{any_append, keep_append}
 use Rattle.oce_model.specs.Format.{most_external_inputs}
-use Rattle.oce_model.specs.Model.{Model, model_of}
+use Rattle.oce_model.specs.Model.{Model}
 use Rattle.structural.specs.Degrees.{external}
-use Rattle.image_accept.specs.Layout.{Laid}
-use Rattle.image_accept.specs.declared.Layout.{Layout}
-use Rattle.image_records.proofs.Laws.{externals-counted, externals-few}
 use Rattle.sorting.specs.Sort.{sorted, Ascending}
 use Rattle.sorting.proofs.Sorted.{sorted-ascending, any-sorted}
 use Rattle.structural_externals.specs.Columns.{listed_ids, others_count, others, behind, Lists, OthersSorted, Listed}
@@ -93,42 +90,37 @@ module _ {m : Model} {k n : ℕ} {xs : List ℕ} {x : ℕ} (inside : k < length 
           get_or-set_other xs (listed_ids xs + n) i x 0 (λ z. absurd (omega arith)) ∙ v.each i b
           ∙ sym (ap (λ t. cond t 1 0) (among-miss m.external_inputs k inside i (λ z. absurd (omega arith))))
 
-module _ {s : List ℕ} {l : Layout} (h : Laid s l) where
-  inside : {k : ℕ} → k < l.externals.count → k < length (model_of s).external_inputs
-  inside a = let n = externals-counted h in omega arith
+module _ {m : Model} {k n : ℕ} {xs : List ℕ} (v : Lists m k n xs) where
+  -- there is room for one more
+  pub others-room : k < length m.external_inputs → n < listed_ids xs
+  others-room a = let f = v.few in let r = v.serves in omega arith
 
-  module _ {k n : ℕ} {xs : List ℕ} (v : Lists (model_of s) k n xs) where
-    -- there is room for one more
-    pub others-room : k < l.externals.count → n < listed_ids xs
-    others-room a = let f = v.few in let r = v.serves in let c = externals-counted h in omega arith
+  pub others-fit : k ≤ length m.external_inputs → n ≤ listed_ids xs
+  others-fit a = let f = v.few in let r = v.serves in omega arith
 
-    pub others-fit : k ≤ l.externals.count → n ≤ listed_ids xs
-    others-fit a = let f = v.few in let r = v.serves in let c = externals-counted h in omega arith
+  pub others-few : k ≤ most_external_inputs → n ≤ most_external_inputs
+  others-few a = let f = v.few in omega arith
 
-    pub others-few : k ≤ l.externals.count → n ≤ most_external_inputs
-    others-few a = let f = v.few in let g = externals-few h in omega arith
+  module _ {x p : ℕ} (e : x ≡ get_or m.external_inputs k 0) (q : p ≡ listed_ids xs) (a : k < length m.external_inputs) where
+    pub lists-hit : x < p → Lists m (k + 1) n (set xs x 1)
+    lists-hit b = marked a v e (rw q at b)
 
-    module _ {x p : ℕ} (e : x ≡ get_or (model_of s).external_inputs k 0) (q : p ≡ listed_ids xs) (a : k < l.externals.count) where
-      pub lists-hit : x < p → Lists (model_of s) (k + 1) n (set xs x 1)
-      lists-hit b = marked (inside a) v e (rw q at b)
+    pub lists-miss : p ≤ x → Lists m (k + 1) (n + 1) (set xs (p + n) x)
+    lists-miss b = rw q (appended a v e (rw q at b) (others-room a))
 
-      pub lists-miss : p ≤ x → Lists (model_of s) (k + 1) (n + 1) (set xs (p + n) x)
-      lists-miss b = rw q (appended (inside a) v e (rw q at b) (others-room a))
-
-    -- all are listed, and the others sorted
-    pub lists-all : {xs' : List ℕ} → k ≤ l.externals.count → l.externals.count ≤ k → OthersSorted n xs xs' → Listed (model_of s) xs'
-    unfolding external
-    lists-all {xs'} a b o =
-        let ids = (model_of s).external_inputs in
-        let none : length ids ≤ k = (let c = externals-counted h in omega arith) in
-        let all : take k ids ≡ ids = take_all k ids none in
-        let same : length xs' ≡ length xs = o.same in
-        record {
-          room = rw same v.room;
-          each = rw same (λ i q. o.each i q ∙ v.each i q ∙ ap (λ t. cond (any (eqb i) t) 1 0) all);
-          few = rw same (let c = o.count in let f = others-fit a in omega arith);
-          rest = rw same (ap (λ c. behind (listed_ids xs) c xs') o.count ∙ o.rest ∙ ap (sorted ltb) (v.rest ∙ ap (others (listed_ids xs)) all));
-        }
+  -- all are listed, and the others sorted
+  pub lists-all : {xs' : List ℕ} → k ≡ length m.external_inputs → OthersSorted n xs xs' → Listed m xs'
+  unfolding external
+  lists-all {xs'} a o =
+      let ids = m.external_inputs in
+      let all : take k ids ≡ ids = take_all k ids (omega arith) in
+      let same : length xs' ≡ length xs = o.same in
+      record {
+        room = rw same v.room;
+        each = rw same (λ i q. o.each i q ∙ v.each i q ∙ ap (λ t. cond (any (eqb i) t) 1 0) all);
+        few = rw same (let c = o.count in let f = others-fit (omega arith) in omega arith);
+        rest = rw same (ap (λ c. behind (listed_ids xs) c xs') o.count ∙ o.rest ∙ ap (sorted ltb) (v.rest ∙ ap (others (listed_ids xs)) all));
+      }
 
 -- ---- an id looked up
 

@@ -7,11 +7,9 @@ ghost use Rattle.std.specs.Prelude.{◌≡◌, ◌+◌, ◌<◌, ◌≤◌, leng
 ghost use Rattle.oce_model.specs.Format.{most_external_inputs};
 ghost use Rattle.oce_model.specs.Model.{model_of};
 ghost use Rattle.structural.specs.Degrees.{external};
-ghost use Rattle.image_accept.specs.Layout.{Laid};
 ghost use Rattle.structural_externals.specs.Columns.{half, listed_ids, others_count, Lists, OthersSorted, Listed};
 
-use image_accept::Layout;
-use image_records::external_input;
+use image_records::Image;
 use oce_model::MOST_EXTERNAL_INPUTS;
 use sorting::{is_among, sort};
 
@@ -27,18 +25,19 @@ fn half(n: usize) -> usize
 }
 
 // External input k marks its id's entry, or is put behind the n others. How many others there are then.
-fn list_one(image: &[u8], layout: Layout, k: usize, n: usize, externals: &mut [u32]) -> usize
-    requires { Laid image.now layout × (k < layout.externals.count) × Lists (model_of image.now) k n externals.old × (n < listed_ids externals.old) }
+fn list_one(image: &Image, k: usize, n: usize, externals: &mut [u32]) -> usize
+    requires { (k < length (model_of image.now).external_inputs) × Lists (model_of image.now) k n externals.old × (n < listed_ids externals.old) }
     ensures { Lists (model_of image.now) (k + 1) result externals.new }
 {
     let h = half(externals.len());
-    let id = external_input(image, layout, k);
+    let id = image.external_input(k);
     if id < h {
         externals[id] = 1;
-        return n;
+        n
+    } else {
+        externals[h + n] = id as u32;
+        n + 1
     }
-    externals[h + n] = id as u32;
-    n + 1
 }
 
 // Sorts the n others, and notes how many they are.
@@ -52,13 +51,13 @@ fn sort_others(externals: &mut [u32], n: usize)
 }
 
 // The external inputs of an image in a column, which the caller has cleared.
-pub fn list_externals(image: &[u8], layout: Layout, externals: &mut [u32])
-    requires { Laid image.now layout × Lists (model_of image.now) 0 0 externals.old }
+pub fn list_externals(image: &Image, externals: &mut [u32])
+    requires { Lists (model_of image.now) 0 0 externals.old }
     ensures { Listed (model_of image.now) externals.new }
 {
     let mut n = 0;
-    for k in 0..layout.externals.count {
-        n = list_one(image, layout, k, n, externals);
+    for k in 0..image.external_input_count() {
+        n = list_one(image, k, n, externals);
     }
     sort_others(externals, n);
 }
@@ -73,13 +72,14 @@ fn others(externals: &[u32]) -> usize
 }
 
 // An id is that of an external input.
-pub fn is_external(image: &[u8], layout: Layout, externals: &[u32], id: usize) -> bool
-    requires { Laid image.now layout × Listed (model_of image.now) externals.now }
+pub fn is_external(image: &Image, externals: &[u32], id: usize) -> bool
+    requires { Listed (model_of image.now) externals.now }
     ensures { result ≡ external (model_of image.now) id }
 {
     let h = half(externals.len());
     if id < h {
-        return externals[id] == 1;
+        externals[id] == 1
+    } else {
+        is_among(&externals[h..h + others(externals)], id)
     }
-    is_among(&externals[h..h + others(externals)], id)
 }

@@ -9,5 +9,5 @@ returns-then-id-h c = search (entry-tells, rules)
 pub is_among-requires : goal.is_among-requires
 is_among-requires c = search (others-ascend, rules)
 
-pub returns : goal.returns
-returns c = search (others-tell, rules)
+pub returns-else-id-h : goal.returns-else-id-h
+returns-else-id-h c = search (others-tell, rules)

@@ -1,5 +1,6 @@
 -- `structural_externals::list_externals` meets its contract.
 use borrow.Author.Rules.{rules}
+use Rattle.std.proofs.Common.{arith}
 use Rattle.structural_externals.proofs.Laws.{others-room, others-fit, others-few, lists-all}
 use Rattle.structural_externals.proofs.list_externals.Goals as goal
 
@@ -10,4 +11,4 @@ pub sort_others-requires : goal.sort_others-requires
 sort_others-requires c = search (others-fit, others-few, rules)
 
 pub returns : goal.returns
-returns c = search (lists-all, rules)
+returns c = lists-all c.loop-k.invariant (omega arith) c.sort_others.ensures

@@ -6,5 +6,5 @@ use Rattle.structural_externals.proofs.list_one.Goals as goal
 pub returns-then-id-h : goal.returns-then-id-h
 returns-then-id-h c = search (lists-hit, rules)
 
-pub returns : goal.returns
-returns c = search (lists-miss, rules)
+pub returns-else-id-h : goal.returns-else-id-h
+returns-else-id-h c = search (lists-miss, rules)
