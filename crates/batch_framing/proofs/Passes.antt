@@ -1,9 +1,11 @@
 -- Laws of a pass over the images of a batch in which no field is at fault: how it starts, steps and ends, and which image stands in a field.
-use Prim.Native.Nat.{ℕ, ◌+◌, ◌<◌, ◌≤◌}
+use Prim.Native.Nat.{ℕ, zero, suc, ◌+◌, ◌<◌, ◌≤◌}
 use native.Mathlib.Nat.{add-zero}
+use native.Mathlib.Numerals.{add-one}
 use native.Mathlib.Omega.{arith}
-use mathlib.Core.Path.{◌≡◌, refl, sym, ap, ◌∙◌}
-use mathlib.Core.Bool.{false, not}
+use mathlib.Core.Logic.{◌⊎◌, inl, inr}
+use mathlib.Core.Path.{◌≡◌, refl, sym, subst, ap, ◌∙◌}
+use mathlib.Core.Bool.{Bool, true, false, cond, not}
 use mathlib.Core.List.{List, [], ◌∷◌}
 use Rattle.std.specs.Prelude.{None}
 use lib.Dec.{eqb, leb}
@@ -11,15 +13,16 @@ use lib.ListN.{length, get_or, drop, length-map}
 use lib.Seq.{drop-drop, get_or-drop}
 use borrow.Author.Tests.{eqb-true, eq-eqb, leb-false, not-false}
 use Rattle.base.proofs.Lists.{or_parts}
-use Rattle.base.proofs.Members.{get_or-map}
+use Rattle.base.proofs.Members.{get_or-map, get_or-mem}
 use Rattle.numbers.specs.Bytes.{byte}
-use Rattle.oce_model.specs.Image.{field_at, fields, first}
+use Rattle.oce_model.specs.Image.{field_at, field_end, fields, fields_from, first, ord_of}
 use Rattle.oce_model.specs.declared.Field.{Field}
 use Rattle.oce_model.proofs.Fields.{NonePass, none_of, first-later}
-use Rattle.image_framing.specs.Walk.{after, end_of, placed, start}
-use Rattle.image_framing.proofs.Walks.{Step, walk_end, walk-fits, walk_start, walk_step}
+use Rattle.oce_model.proofs.Places.{field-end}
+use Rattle.image_framing.specs.Walk.{after, end_of, start}
+use Rattle.image_framing.proofs.Walks.{walk-fits, walk_start, walk_step}
 use Rattle.batch.specs.Fields.{image_tag, most_images, bad_field, image_in, images}
-use Rattle.batch_framing.specs.Clean.{Clean, Passing}
+use Rattle.batch_framing.specs.Clean.{Clean, Counted, Ahead, Passing}
 
 -- ---- a field that isn't bad
 
@@ -37,20 +40,101 @@ good-first f l h = arm (none_of bad_field (f ∷ l) h)
     arm : NonePass bad_field (f ∷ l) → bad_field f ≡ false
     arm (NonePass.and e n) = e
 
--- behind a field with the same tag stands one more
-ord-next : (s : List ℕ) (f : Field) → f.tag ≡ (after s f).tag → (after s f).ord ≡ f.ord + 1
-unfolding after placed field_at
-ord-next s f e = rw (eq-eqb f.tag (byte s (end_of f)) e)
+-- where no field is bad, all are images, so one more stands before each
+counted-from : (k : ℕ) (s : List ℕ) (at prev n : ℕ) → (prev ≡ image_tag) ⊎ (n ≡ 0) → first bad_field (fields_from k s at prev n) ≡ None → Counted n (fields_from k s at prev n)
+unfolding fields_from Counted first field_at
+counted-from zero s at prev n p h = tt
+counted-from (suc k) s at prev n p h = arm (leb (field_end s at) (length s)) h (counted-from k s (field_end s at) t (suc o))
+  where
+    t : ℕ
+    t = byte s at
 
--- ---- the pass
+    o : ℕ
+    o = ord_of prev n t
+
+    rest : List Field
+    rest = fields_from k s (field_end s at) t (suc o)
+
+    same : t ≡ image_tag → (prev ≡ image_tag) ⊎ (n ≡ 0) → o ≡ n
+    same e (inl q) = rw (eq-eqb prev t (q ∙ sym e)) refl
+    same e (inr q) = zeros (eqb prev t)
+      where
+        zeros : (b : Bool) → cond b n 0 ≡ n
+        zeros true = refl
+        zeros false = sym q
+
+    arm : (b : Bool) → first bad_field (cond b (field_at s at prev o ∷ rest) []) ≡ None → ((t ≡ image_tag) ⊎ (suc o ≡ 0) → first bad_field rest ≡ None → Counted (suc o) rest) → Counted n (cond b (field_at s at prev o ∷ rest) [])
+    arm true q ih =
+        let f = field_at s at prev o in
+        let g = good-first f rest q in
+        let e : t ≡ image_tag = good-tag f g in
+        let m : o ≡ n = same e p in
+        (m, subst (λ x. Counted x rest) (sym (add-one o) ∙ ap (λ x. x + 1) m) (ih (inl e) (sym (first-later bad_field f rest g) ∙ q)))
+    arm false q ih = tt
+
+-- ---- what is ahead
+
+pub ahead-start : {s : List ℕ} {rest : List Field} → Clean s → rest ≡ fields s → Ahead s 0 rest
+unfolding fields
+ahead-start {s} v e = rw e (record { good = v.good; here = refl; all = omega arith; counted = counted-from (length s) s 0 0 0 (inr refl) v.good; few = omega arith })
+
+module _ {s : List ℕ} {i : ℕ} {f : Field} {rest later : List Field} (v : Ahead s i rest) (e : rest ≡ f ∷ later) where
+  fine : bad_field f ≡ false
+  fine = good-first f later (ap (first bad_field) (sym e) ∙ v.good)
+
+  some_left : i < length (fields s)
+  some_left = let n : length rest ≡ length later + 1 = ap length e ∙ (omega arith) in omega (arith, v.all)
+
+  here : f ≡ get_or (fields s) i f
+  here = ap (λ (r : List Field). get_or r 0 f) (sym e ∙ v.here) ∙ get_or-drop i (fields s) 0 f ∙ ap (λ n. get_or (fields s) n f) (add-zero i)
+
+  pub ahead-fits : end_of f ≤ length s
+  ahead-fits = field-end s f (rw here (get_or-mem (fields s) i f some_left))
+
+  pub ahead-few : f.ord < most_images
+  ahead-few = good-few f fine
+
+  pub ahead-ord : f.ord ≡ i
+  unfolding Counted
+  ahead-ord = (rw e at v.counted).0
+
+  pub ahead-next : Ahead s (i + 1) later
+  unfolding Counted
+  ahead-next =
+      let n : length rest ≡ length later + 1 = ap length e ∙ (omega arith) in
+      let o = ahead-ord in
+      let few = ahead-few in
+      let all = v.all in
+      record {
+        good = sym (first-later bad_field f later fine) ∙ ap (first bad_field) (sym e) ∙ v.good;
+        here = ap (drop 1) (sym e ∙ v.here) ∙ drop-drop 1 i (fields s);
+        all = omega arith;
+        counted = (rw e at v.counted).1;
+        few = omega arith;
+      }
+
+  pub ahead-more : i < length (images s)
+  unfolding images
+  ahead-more = let l = some_left in rw (length-map (fields s) (image_in s)) l
+
+  -- image i is the one in f
+  pub ahead-image : get_or (images s) i [] ≡ image_in s f
+  unfolding images
+  ahead-image = get_or-map (image_in s) (fields s) i f [] some_left ∙ ap (image_in s) (sym here)
+
+-- at the end none is left
+pub ahead-all : {s : List ℕ} {i : ℕ} {rest : List Field} → Ahead s i rest → rest ≡ [] → i ≡ length (images s)
+unfolding images
+ahead-all {s} {rest = rest} v e =
+    let n : length rest ≡ 0 = ap length e in
+    let all = v.all in
+    let m = length-map (fields s) (image_in s) in
+    omega arith
+
+-- ---- the pass by `next_field`
 
 pub passing-start : {s : List ℕ} {f : Field} → Clean s → f ≡ start s → Passing s f 0 (fields s)
-unfolding start placed field_at
-passing-start {s} {f} v e =
-    let w = walk_start e in
-    let at : f.at ≡ 0 = rw e in
-    let few = w.few in
-    record { walk = w; ends = v.ends; good = v.good; here = refl; all = omega arith; ord = λ h. omega arith; few = omega arith }
+passing-start v e = record { walk = walk_start e; ends = v.ends; ahead = ahead-start v refl }
 
 -- one image fewer
 pub record Passed (s : List ℕ) (f g : Field) (i : ℕ) (rest : List Field) : Type 0 where
@@ -62,66 +146,10 @@ module _ {s : List ℕ} {f : Field} {i : ℕ} {rest : List Field} (v : Passing s
   pub passing-fits : f.at < length s → end_of f ≤ length s
   passing-fits h = walk-fits v.walk v.ends h
 
-  step : {g : Field} → f.at < length s → g ≡ after s f → Step s f g rest
-  step h e = walk_step v.walk h (passing-fits h) e
-
-  fine : f.at < length s → bad_field f ≡ false
-  fine h = let k = step h refl in good-first f k.later (ap (first bad_field) (sym k.is) ∙ v.good)
-
   pub passing-few : f.at < length s → f.ord < most_images
-  passing-few h = good-few f (fine h)
+  passing-few h = ahead-few v.ahead (walk_step v.walk h (passing-fits h) refl).is
 
   pub passing_step : {g : Field} → f.at < length s → g ≡ after s f → Passed s f g i rest
-  passing_step {g} h e =
-      let k = step h e in
-      let good : first bad_field k.later ≡ None = sym (first-later bad_field f k.later (fine h)) ∙ ap (first bad_field) (sym k.is) ∙ v.good in
-      let n : length rest ≡ length k.later + 1 = ap length k.is ∙ (omega arith) in
-      let o = v.ord h in
-      let few = passing-few h in
-      let all = v.all in
-      record {
-        later = k.later;
-        is = k.is;
-        pass = record {
-          walk = k.walk;
-          ends = v.ends;
-          good = good;
-          here = ap (drop 1) (sym k.is ∙ v.here) ∙ drop-drop 1 i (fields s);
-          all = omega arith;
-          ord = λ l.
-              (let m = walk_step k.walk l (walk-fits k.walk v.ends l) refl in
-              let t : g.tag ≡ image_tag = good-tag g (good-first g m.later (ap (first bad_field) (sym m.is) ∙ good)) in
-              ap (λ (g : Field). g.ord) e ∙ ord-next s f (good-tag f (fine h) ∙ sym t ∙ ap (λ (g : Field). g.tag) e) ∙ ap (λ n. n + 1) o);
-          few = omega arith;
-        };
-      }
-
-  some_left : f.at < length s → i < length (fields s)
-  some_left h =
-      let k = step h refl in
-      let n : length rest ≡ length k.later + 1 = ap length k.is ∙ (omega arith) in
-      omega (arith, v.all)
-
-  pub passing-more : f.at < length s → i < length (images s)
-  unfolding images
-  passing-more h = let l = some_left h in rw (length-map (fields s) (image_in s)) l
-
-  -- image i is the one in f
-  pub passing-image : f.at < length s → get_or (images s) i [] ≡ image_in s f
-  unfolding images
-  passing-image h =
-      let k = step h refl in
-      let g : f ≡ get_or (fields s) i f = ap (λ (r : List Field). get_or r 0 f) (sym k.is ∙ v.here) ∙ get_or-drop i (fields s) 0 f ∙ ap (λ n. get_or (fields s) n f) (add-zero i) in
-      get_or-map (image_in s) (fields s) i f [] (some_left h) ∙ ap (image_in s) (sym g)
-
-  -- at the end none is left
-  pub passing-end : length s ≤ f.at → rest ≡ []
-  passing-end h = walk_end v.walk h
-
-  pub passing-all : length s ≤ f.at → i ≡ length (images s)
-  unfolding images
-  passing-all h =
-      let n : length rest ≡ 0 = ap length (passing-end h) in
-      let all = v.all in
-      let m = length-map (fields s) (image_in s) in
-      omega arith
+  passing_step h e =
+      let k = walk_step v.walk h (passing-fits h) e in
+      record { later = k.later; is = k.is; pass = record { walk = k.walk; ends = v.ends; ahead = ahead-next v.ahead k.is } }

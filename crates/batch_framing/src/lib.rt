@@ -6,37 +6,34 @@ ghost use Rattle.batch.specs.Fields.{bad_field, first_fault, image_in};
 
 use base::part_of;
 use batch::{IMAGE_TAG, MOST_IMAGES};
-use image_framing::{Found, first_field, next_field, runs_past};
+use image_framing::{Fields, end_of};
 use oce_model::{Field, LEADING_BYTES};
 
 // Another tag than an image's, or as many images before it as there may be.
+#[tactic(auto, unfolding(batch::specs::Fields::bad_field))]
 fn bad_field(f: Field) -> bool
     ensures { result ≡ bad_field f }
 {
-    if f.tag != IMAGE_TAG {
-        return true;
-    }
-    MOST_IMAGES <= f.ord
+    f.tag != IMAGE_TAG || MOST_IMAGES <= f.ord
 }
 
-// Goes through the fields once, for refusal 11: the first field that is cut short or bad.
-pub fn find_fault(batch: &[u8]) -> Found
-    ensures { result ≡ (first_fault batch.now) }
+// Goes through the fields once, for refusal 11: the offset of the first field that is cut short or bad, if there is
+// one.
+pub fn find_fault(batch: &[u8]) -> Option<usize>
+    ensures { result ≡ first_fault batch.now }
 {
-    let mut f = first_field(batch);
-    while f.at < batch.len() {
-        if runs_past(batch, f) {
-            return Found::At(f.at);
-        }
+    let mut end = 0;
+    for f in Fields::of(batch) {
         if bad_field(f) {
-            return Found::At(f.at);
+            return Some(f.at);
         }
-        f = next_field(batch, f);
+        end = end_of(f);
     }
-    Found::Nothing
+    if end < batch.len() { Some(end) } else { None }
 }
 
 // The image in a field.
+#[tactic(auto, unfolding(oce_model::specs::Texts::text_of))]
 pub fn image_in(batch: &[u8], f: Field) -> &[u8]
     requires { f.at ≤ length batch.now }
     ensures { result.now ≡ image_in batch.now f }

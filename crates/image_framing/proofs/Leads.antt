@@ -10,10 +10,9 @@ use borrow.Author.Tests.{le-leb, lt-leb, leb-true}
 use Rattle.std.specs.Prelude.{None, Some}
 use Rattle.numbers.proofs.Bytes.{byte_past, le-past}
 use Rattle.oce_model.specs.Format.{leading_bytes, field_length_at}
-use Rattle.oce_model.specs.Image.{field_end, field_at, ord_of}
-use Rattle.oce_model.specs.declared.Field.{Field}
+use Rattle.oce_model.specs.Image.{field_end}
 use Rattle.image_framing.specs.declared.Leading.{Leading}
-use Rattle.image_framing.specs.Walk.{leading_at, whole_at, placed}
+use Rattle.image_framing.specs.Walk.{leading_at, whole_at}
 
 module _ (s : List ℕ) (at : ℕ) where
   -- nothing stands past the end
@@ -52,9 +51,3 @@ not-whole s at h = arm (leb (field_end s at) (length s)) refl h
     arm : (b : Bool) → leb (field_end s at) (length s) ≡ b → None ≡ cond b (Some (leading_at s at)) None → leb (field_end s at) (length s) ≡ false
     arm true e q = let z : ◌≡◌ {A = ℕ} 0 1 = cc in absurd (omega arith)
     arm false e q = e
-
--- the field there, behind others
-pub leads-field : (s : List ℕ) (at prev n : ℕ) {l : Leading} {ord : ℕ} → l ≡ leading_at s at → ord ≡ ord_of prev n l.tag
-    → ◌≡◌ {A = Field} (record { at = at; tag = l.tag; len = l.len; prev = prev; ord = ord }) (placed s at prev n)
-unfolding placed field_at
-leads-field s at prev n e o = rw (o, e)

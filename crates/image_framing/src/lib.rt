@@ -63,6 +63,7 @@ pub fn whole_at(s: &[u8], at: usize) -> Option<Leading>
 }
 
 // The field at an offset, behind n fields with the tag prev.
+#[tactic(auto, unfolding(crate::specs::Walk::placed, oce_model::specs::Image::field_at))]
 fn field_at(s: &[u8], at: usize, prev: usize, n: usize) -> Field
     ensures { (result ≡ placed s.now at prev n) × (result.len < short_range) }
 {
@@ -85,6 +86,7 @@ pub fn end_of(f: Field) -> usize
 }
 
 // The field at the start.
+#[tactic(auto, unfolding(crate::specs::Walk::start))]
 pub fn first_field(s: &[u8]) -> Field
     ensures { (result ≡ start s.now) × (result.len < short_range) }
 {
@@ -92,6 +94,7 @@ pub fn first_field(s: &[u8]) -> Field
 }
 
 // The field behind f.
+#[tactic(auto, unfolding(crate::specs::Walk::after))]
 pub fn next_field(s: &[u8], f: Field) -> Field
     requires { (end_of f ≤ length s.now) × (f.ord ≤ f.at) }
     ensures { (result ≡ after s.now f) × (result.len < short_range) }

@@ -1,26 +1,29 @@
 -- `batch_framing::find_fault` meets its contract: none of the fields passed is at fault.
-use borrow.Author.Rules.{rules}
-use Rattle.image_framing.proofs.Walks.{past_end, within_end, walk-less}
-use Rattle.batch_framing.proofs.Finds.{searching-start, searching-turn, searching-bad, searching-cut, searching-none}
+use Rattle.std.proofs.Common.{rules}
+use Rattle.image_framing.proofs.Finds.{searching-start, searching-fits, searching-next, searching-found, searching-none, stopping-start, stopping-next, stopping-end}
+use Rattle.batch_framing.proofs.Finds.{fault-bad, fault-cut, fault-none}
 use Rattle.batch_framing.proofs.find_fault.Goals as goal
 
 pub loop-f-init : goal.loop-f-init
-loop-f-init c = search (searching-start, rules)
-
-pub returns-then-runs_past : goal.returns-then-runs_past
-returns-then-runs_past c = search (searching-cut, past_end, rules)
+loop-f-init c = (searching-start _ cc, stopping-start cc)
 
 pub returns-then-bad_field : goal.returns-then-bad_field
-returns-then-bad_field c = search (searching-bad, within_end, rules)
+returns-then-bad_field c = fault-bad _ (searching-found c.loop-f.invariant.0 c.in-Some.ensures.steps c.bad_field.ensures c.if-bad_field.true)
 
-pub next_field-f-requires : goal.next_field-f-requires
-next_field-f-requires c = search (within_end, rules)
-
-pub loop-f-smaller : goal.loop-f-smaller
-loop-f-smaller c = search (walk-less, rules)
+pub end_of-end-requires : goal.end_of-end-requires
+end_of-end-requires c = search (searching-fits, rules)
 
 pub loop-f-preserved : goal.loop-f-preserved
-loop-f-preserved c = search (searching-turn, within_end, rules)
+loop-f-preserved c =
+    let e = c.in-Some.ensures.steps in
+    (searching-next c.loop-f.invariant.0 e c.bad_field.ensures c.if-bad_field.false, stopping-next c.loop-f.invariant.1 e c.end_of-end.ensures)
 
-pub returns : goal.returns
-returns c = search (searching-none, rules)
+pub returns-then-end-batch : goal.returns-then-end-batch
+returns-then-end-batch c =
+    let e = c.in-None.ensures.steps.0 in
+    fault-cut _ (searching-none c.loop-f.invariant.0 e) (stopping-end c.loop-f.invariant.1 e) c.if-end-batch.true
+
+pub returns-else-end-batch : goal.returns-else-end-batch
+returns-else-end-batch c =
+    let e = c.in-None.ensures.steps.0 in
+    fault-none _ (searching-none c.loop-f.invariant.0 e) (stopping-end c.loop-f.invariant.1 e) c.if-end-batch.false
