@@ -7,8 +7,7 @@ use lib.ListN.{length, take}
 use borrow.Author.Tests.{lt-ltb, le-ltb}
 use Rattle.base.specs.Buffers.{patch, starts_with}
 use Rattle.base.proofs.Buffers.{starts_with-patch}
-use Rattle.image_framing.specs.declared.Found.{Found}
-use Rattle.image_framing.specs.declared.Found.TheVariants.{At}
+use Rattle.std.specs.Prelude.{Option, Some}
 use Rattle.batch.specs.Fields.{first_fault}
 use Rattle.batch.specs.Output.{batch_output, bytes_needed}
 use Rattle.batch.specs.Answer.{answer_with, batch_answer, batch_numbers, output_after}
@@ -19,7 +18,7 @@ use Rattle.batch_framing.proofs.Finds.{clean-none, found-fault}
 use Rattle.batch_check.specs.Called.{Measured, Called}
 
 -- refusal 11
-pub called-fault : (s o : List ℕ) {r : Found} {at : ℕ} → r ≡ (first_fault s) → r ≡ At at → Called s o (Refused 11 at) o
+pub called-fault : (s o : List ℕ) {r : Option ℕ} {at : ℕ} → r ≡ (first_fault s) → r ≡ Some at → Called s o (Refused 11 at) o
 unfolding batch_answer output_after
 called-fault s o e h = let q = found-fault s e h in record { answer = rw q; output = rw q }
 

@@ -15,7 +15,7 @@ use base::copy_at;
 use batch::{BatchAnswer, MOST_IMAGES, SUMMARY_SIZE, Summary};
 use batch_framing::{find_fault, image_in};
 use batch_image::{size_of, summarize_at, write_image};
-use image_framing::{Found, first_field, next_field};
+use image_framing::Fields;
 use oce_model::Field;
 
 // Numbers of a summary.
@@ -73,11 +73,9 @@ fn measure(batch: &[u8], kept: &mut [u32], early: &mut [u8]) -> usize
     requires { Clean batch.now × (length kept.old ≡ kept_length) }
     ensures { Measured batch.now kept.new early.new result }
 {
-    let mut f = first_field(batch);
     let mut needed = 0;
-    while f.at < batch.len() {
+    for f in Fields::of(batch) {
         needed += measure_image(batch, f, kept, early, needed);
-        f = next_field(batch, f);
     }
     needed
 }
@@ -99,11 +97,9 @@ fn write_all(batch: &[u8], kept: &[u32], output: &mut [u8])
     requires { Clean batch.now × Kept batch.now kept.now × (bytes_needed batch.now ≤ length output.old) }
     ensures { output.new ≡ starts_with (batch_output batch.now) output.old }
 {
-    let mut f = first_field(batch);
     let mut o = 0;
-    while f.at < batch.len() {
+    for f in Fields::of(batch) {
         o = write_part(batch, f, kept, output, o);
-        f = next_field(batch, f);
     }
 }
 
@@ -143,10 +139,9 @@ fn check_images(batch: &[u8], output: &mut [u8]) -> BatchAnswer
 fn check_any(batch: &[u8], output: &mut [u8]) -> BatchAnswer
     ensures { Called batch.now output.old result output.new }
 {
-    let fault = find_fault(batch);
-    match fault {
-        Found::At(at) => BatchAnswer::Refused { number: 11, at },
-        Found::Nothing => check_images(batch, output),
+    match find_fault(batch) {
+        Some(at) => BatchAnswer::Refused { number: 11, at },
+        None => check_images(batch, output),
     }
 }
 

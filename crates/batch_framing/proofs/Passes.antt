@@ -91,6 +91,9 @@ module _ {s : List ℕ} {i : ℕ} {f : Field} {rest later : List Field} (v : Ahe
   pub ahead-fits : end_of f ≤ length s
   ahead-fits = field-end s f (rw here (get_or-mem (fields s) i f some_left))
 
+  pub ahead-at : f.at ≤ length s
+  ahead-at = let fits = ahead-fits in omega arith
+
   pub ahead-few : f.ord < most_images
   ahead-few = good-few f fine
 

@@ -7,5 +7,5 @@ use Rattle.batch_check.proofs.check_any.Goals as goal
 pub check_images-requires : goal.check_images-requires
 check_images-requires c = search (found-clean, rules)
 
-pub returns-in-At : goal.returns-in-At
-returns-in-At c = search (called-fault, rules)
+pub returns-in-Some : goal.returns-in-Some
+returns-in-Some c = search (called-fault, rules)
