@@ -18,7 +18,7 @@ use Rattle.batch_framing.proofs.Finds.{clean-none, found-fault}
 use Rattle.batch_check.specs.Called.{Measured, Called}
 
 -- refusal 11
-pub called-fault : (s o : List ℕ) {r : Option ℕ} {at : ℕ} → r ≡ (first_fault s) → r ≡ Some at → Called s o (Refused 11 at) o
+pub called-fault : (s o : List ℕ) {r : Option ℕ} {at : ℕ} → r ≡ first_fault s → r ≡ Some at → Called s o (Refused 11 at) o
 unfolding batch_answer output_after
 called-fault s o e h = let q = found-fault s e h in record { answer = rw q; output = rw q }
 
