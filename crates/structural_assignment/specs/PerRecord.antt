@@ -1,14 +1,10 @@
 -- What rule 3 reports, from what was found of an input.
-use Rattle.std.specs.Prelude.{ℕ, Bool, cond, not, ◌&&◌, List, ◌++◌, eqb, ltb, get_or}
+use Rattle.std.specs.Prelude.{ℕ, Bool, not, ◌&&◌, List, ◌++◌, eqb, ltb}
 use Rattle.base.specs.Lists.{only}
 use Rattle.oce_diag.specs.Diagnostics.{error}
 use Rattle.oce_diag.specs.declared.Diagnostic.{Diagnostic}
 use Rattle.oce_diag.specs.declared.Subject.{Subject}
 use Rattle.oce_diag.specs.declared.DiagCode.TheVariants.{SingleAssignment}
-
--- the entry of a column under an id below n, and 0 under any other
-unfoldable pub entry_of : List ℕ → ℕ → ℕ → ℕ
-entry_of ds n id = cond (ltb id n) (get_or ds id 0) 0
 
 -- nothing drives an input, by its degree and by whether it is external
 unfoldable pub undriven : ℕ → Bool → Bool

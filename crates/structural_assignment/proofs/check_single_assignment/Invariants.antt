@@ -1,13 +1,9 @@
 -- `structural_assignment::check_single_assignment` meets its contract: a connector a turn.
-use Prim.Native.Nat.{◌-◌}
-use Rattle.oce_diag.specs.Putting.{Emits}
+use Rattle.oce_diag.specs.Reporting.{Turns}
 use Rattle.structural.specs.Structural.{assignment_faults}
 use Rattle.oce_model.specs.Model.{model_of, connector}
 use Rattle.structural_assignment.specs.PerRecord.{most_assignment_faults}
 use Rattle.structural_assignment.proofs.check_single_assignment.Given as goal
 
 abbrev pub invariant-loop-i : goal.invariant-loop-i
-invariant-loop-i l = Emits (λ i. assignment_faults (model_of l.image) i (connector (model_of l.image) i)) most_assignment_faults l.layout.connectors.count l.initial.report l.initial.c l.report l.c l.i
-
-abbrev pub decreases-loop-i : goal.decreases-loop-i
-decreases-loop-i l = l.layout.connectors.count - l.i
+invariant-loop-i l = Turns (λ i. assignment_faults (model_of l.image) i (connector (model_of l.image) i)) most_assignment_faults l.initial.report l.report l.i
