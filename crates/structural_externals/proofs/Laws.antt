@@ -17,7 +17,7 @@ use Rattle.oce_model.specs.Model.{Model}
 use Rattle.structural.specs.Degrees.{external}
 use Rattle.sorting.specs.Sort.{sorted, Ascending}
 use Rattle.sorting.proofs.Sorted.{sorted-ascending, any-sorted}
-use Rattle.structural_externals.specs.Columns.{listed_ids, others_count, others, behind, Lists, OthersSorted, Listed}
+use Rattle.structural_externals.specs.Columns.{listed_ids, others_count, others, behind, Lists, OthersSorted, Listed, Split}
 
 -- ---- one id more
 
@@ -124,13 +124,13 @@ module _ {m : Model} {k n : ℕ} {xs : List ℕ} (v : Lists m k n xs) where
 
 -- ---- an id looked up
 
+mark-is : (b : Bool) → eqb (cond b 1 0) 1 ≡ b
+mark-is true = refl
+mark-is false = refl
+
 -- an entry tells
 pub entry-tells : {m : Model} {xs : List ℕ} {h : ℕ} (id : ℕ) → Listed m xs → h ≡ listed_ids xs → id < h → eqb (get_or xs id 0) 1 ≡ external m id
-entry-tells {m} {xs} id v q l = ap (λ x. eqb x 1) (v.each id (rw q at l)) ∙ arm (external m id)
-  where
-    arm : (b : Bool) → eqb (cond b 1 0) 1 ≡ b
-    arm true = refl
-    arm false = refl
+entry-tells {m} {xs} id v q l = ap (λ x. eqb x 1) (v.each id (rw q at l)) ∙ mark-is (external m id)
 
 -- an id without an entry is among the others, or is in no list
 any-others : (h id : ℕ) → h ≤ id → (ids : List ℕ) → any (eqb id) (others h ids) ≡ any (eqb id) ids
@@ -152,3 +152,13 @@ module _ {m : Model} {xs : List ℕ} {h c : ℕ} (v : Listed m xs) (q : h ≡ li
   pub others-tell : {id : ℕ} {r : Bool} → h ≤ id → r ≡ any (eqb id) (take (h + c - h) (drop h xs)) → r ≡ external m id
   unfolding external
   others-tell {id} l p = p ∙ ap (any (eqb id)) others-are ∙ any-sorted ltb (eqb id) (others h m.external_inputs) ∙ any-others h id l m.external_inputs
+
+-- ---- an id looked up in two lists
+
+module _ {m : Model} {marks ids : List ℕ} (v : Split m marks ids) where
+  pub ids-ascend : Ascending ids
+  ids-ascend = rw v.rest (sorted-ascending (others (length marks) m.external_inputs))
+
+  pub ids-tell : (id : ℕ) → length marks ≤ id → any (eqb id) ids ≡ external m id
+  unfolding external
+  ids-tell id l = ap (any (eqb id)) v.rest ∙ any-sorted ltb (eqb id) (others (length marks) m.external_inputs) ∙ any-others (length marks) id l m.external_inputs

@@ -46,3 +46,8 @@ pub record Listed (m : Model) (xs : List ℕ) : Type 0 where
   pub each : (i : ℕ) → i < listed_ids xs → get_or xs i 0 ≡ cond (external m i) 1 0
   pub few : get_or xs (others_count xs) 0 ≤ listed_ids xs
   pub rest : behind (listed_ids xs) (get_or xs (others_count xs) 0) xs ≡ sorted ltb (others (listed_ids xs) m.external_inputs)
+
+-- the external inputs in two lists: a 1 for each id that has an entry and is external, and the others in ascending order
+pub record Split (m : Model) (marks ids : List ℕ) : Type 0 where
+  pub each : (i : ℕ) → i < length marks → get_or marks i 0 ≡ cond (external m i) 1 0
+  pub rest : ids ≡ sorted ltb (others (length marks) m.external_inputs)

@@ -12,6 +12,7 @@ ghost use Rattle.structural_externals.specs.Columns.{half, listed_ids, others_co
 use image_records::Image;
 use oce_model::MOST_EXTERNAL_INPUTS;
 use sorting::{is_among, sort};
+use std::marker::Model;
 
 // The entries of a column that serves every image.
 pub const EXTERNALS_COLUMN: usize = 2 * MOST_EXTERNAL_INPUTS + 1;
@@ -81,5 +82,62 @@ pub fn is_external(image: &Image, externals: &[u32], id: usize) -> bool
         externals[id] == 1
     } else {
         is_among(&externals[h..h + others(externals)], id)
+    }
+}
+
+// ---- an image with its external inputs
+
+// An image, and its external inputs where they are looked up in few steps. Clauses see the image.
+#[derive(Drop)]
+pub struct Externals<'a> {
+    image: &'a Image<'a>,
+    marks: &'a [u32],
+    others: &'a [u32],
+}
+
+impl<'a> Model for Externals<'a> {
+    ghost use Rattle.std.specs.Prelude.{ℕ, List};
+    ghost use Rattle.oce_model.specs.Model.{model_of};
+    ghost use Rattle.structural_externals.specs.Columns.{Split};
+
+    ghost Value = { List ℕ };
+
+    ghost view = { λ e. e.image.now };
+
+    ghost invariant = { λ e. Split (model_of e.image.now) e.marks.now e.others.now };
+}
+
+impl<'a> Externals<'a> {
+    // Lists the external inputs of an image in a column, which the caller has cleared.
+    pub fn list(image: &'a Image<'a>, column: &'a mut [u32]) -> Externals<'a>
+        requires { Lists (model_of image.now) 0 0 column.old }
+        ensures { result ≡ image.now }
+    {
+        list_externals(image, column);
+        let h = half(column.len());
+        let n = others(column);
+        Externals {
+            image,
+            marks: &column[..h],
+            others: &column[h..h + n],
+        }
+    }
+
+    // The image.
+    pub fn image(&self) -> &'a Image<'a>
+        ensures { result.now ≡ self.now }
+    {
+        self.image
+    }
+
+    // An id is that of an external input.
+    pub fn contains(&self, id: usize) -> bool
+        ensures { result ≡ external (model_of self.now) id }
+    {
+        if id < self.marks.len() {
+            self.marks[id] == 1
+        } else {
+            is_among(self.others, id)
+        }
     }
 }
