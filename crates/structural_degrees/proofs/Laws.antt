@@ -9,7 +9,7 @@ use lib.ListN.{length, get_or, take, replicate, length-replicate, get_or-eq_defa
 use Rattle.std.proofs.Common.{length-take}
 use Rattle.std.proofs.lemmas.List.{get_or-replicate}
 use Rattle.oce_model.specs.Format.{most_connections}
-use borrow.Author.Tests.{lt-ltb}
+use borrow.Author.Tests.{lt-ltb, le-ltb}
 use Rattle.base.specs.Lists.{tally}
 use Rattle.base.proofs.Lists.{tally-add, tally-same, tally-le}
 use Rattle.oce_model.specs.Model.{Model, connection, connector_count, connection_count}
@@ -67,3 +67,8 @@ module _ {m : Model} {k : ℕ} {ds : List ℕ} (h : Counts m k ds) where
       go i b =
           let inside : i < length ds = omega arith in
           h.each i inside ∙ rw (lt-ltb i (connector_count m) b, p)
+
+-- an id that is no connector's number
+pub degree-none : (m : Model) (id : ℕ) → connector_count m ≤ id → 0 ≡ degree m id
+unfolding degree
+degree-none m id l = rw (le-ltb id (connector_count m) l)

@@ -6,10 +6,12 @@ ghost use Rattle.std.specs.Prelude.{◌≡◌, ◌≤◌, ◌+◌, ◌<◌, leng
 ghost use Rattle.structural_degrees.specs.Counted.{portion, counted, Spare};
 ghost use Rattle.oce_model.specs.Format.{most_connections};
 ghost use Rattle.oce_model.specs.Model.{model_of, connection_count, connector_count};
+ghost use Rattle.structural.specs.Degrees.{degree};
 ghost use Rattle.structural_degrees.specs.Columns.{Reads, Counts, Degrees};
 
 use image_records::Image;
 use oce_model::{Connection, ConnectorId};
+use std::marker::Model;
 
 // So many connections are lent at once.
 pub const PORTION: usize = 64;
@@ -64,5 +66,59 @@ pub fn in_degrees(image: &Image, degrees: &mut [u32])
     degrees.fill(0);
     for first in (0..image.connection_count()).step_by(PORTION) {
         count_portion(image, first, degrees);
+    }
+}
+
+// ---- an image with its in-degrees
+
+// An image, and the in-degrees of its connectors by their numbers. Clauses see the image.
+#[derive(Drop)]
+pub struct InDegrees<'a> {
+    image: &'a Image<'a>,
+    degrees: &'a [u32],
+}
+
+impl<'a> Model for InDegrees<'a> {
+    ghost use Rattle.std.specs.Prelude.{ℕ, List, length, ◌≡◌};
+    ghost use Rattle.oce_model.specs.Model.{model_of, connector_count};
+    ghost use Rattle.structural_degrees.specs.Columns.{Degrees};
+
+    ghost Value = { List ℕ };
+
+    ghost view = { λ d. d.image.now };
+
+    ghost invariant = { λ d. (length d.degrees.now ≡ connector_count (model_of d.image.now)) × Degrees (model_of d.image.now) d.degrees.now };
+}
+
+impl<'a> InDegrees<'a> {
+    // Counts the connections of an image in a column.
+    pub fn count(image: &'a Image<'a>, column: &'a mut [u32]) -> InDegrees<'a>
+        requires { connector_count (model_of image.now) ≤ length column.old }
+        ensures { result ≡ image.now }
+    {
+        in_degrees(image, column);
+        InDegrees {
+            image,
+            degrees: &column[..image.connector_count()],
+        }
+    }
+
+    // The image.
+    pub fn image(&self) -> &'a Image<'a>
+        ensures { result.now ≡ self.now }
+    {
+        self.image
+    }
+
+    // How many connections lead to an id: none where that is no connector's number.
+    pub fn degree(&self, id: ConnectorId) -> u32
+        ensures { result ≡ degree (model_of self.now) id.0 }
+    {
+        let at = id.0 as usize;
+        if at < self.degrees.len() {
+            self.degrees[at]
+        } else {
+            0
+        }
     }
 }
