@@ -1,35 +1,30 @@
-// Ranges: when one is crossed, and what is left of several. `Bounds::crossed`, `Bounds::intersect` and the
-// `try_fold` of `check_combined_input_domains`.
+// Ranges: when one is crossed, and what is left of several. `Bounds::of`, `Bounds::crossed`,
+// `Bounds::intersect` and the `try_fold` of `check_combined_input_domains`.
 #![tactic(auto)]
 
-ghost use Rattle.std.specs.Prelude.{◌≡◌, cond, ◌+◌, ◌<◌, ◌≤◌, length};
-ghost use Rattle.crossed_bounds.specs.Ranges.{crossed_ends, crossed_bounds, crossed, higher, lower, higher_integer, lower_integer, intersect, uncrossed, intersect_with, take_in, range_of};
-ghost use Rattle.oce_model.specs.Format.{longest_image, connector_attrs, attrs_length};
-ghost use Rattle.oce_model.specs.Attributes.{attrs_at};
+ghost use Rattle.std.specs.Prelude.{◌≡◌, ◌<◌};
+ghost use Rattle.crossed_bounds.specs.Ranges.{crossed_ends, crossed_bounds, crossed, higher, lower, intersect, uncrossed, take_in, real_range, integer_range, range_of};
+ghost use Rattle.oce_model.specs.Attributes.{declared_at};
 ghost use Rattle.oce_model.specs.Model.{model_of};
-ghost use Rattle.image_accept.specs.Layout.{Laid};
-ghost use Rattle.crossed_ranges.specs.Read.{end_read, end_fine, real_read, integer_read};
 
 use crossed_bounds::Bounds;
-use image_accept::Layout;
-use image_attributes::{attrs_kind, int_attrs, real_attrs};
-use numbers::{is_finite, is_set};
-use oce_model::{INTEGER_KIND, IntAttrs, MAX_BIT, MIN_BIT, REAL_KIND, RealAttrs};
+use image_records::Image;
+use numbers::{int_of_bits, is_finite, real_of_bits};
+use oce_model::{Attrs, Kind, MAX_BIT, MIN_BIT, NUMBER_COUNT};
 
 // ---- crossed: min is above max, by number
 
+#[tactic(auto, unfolding(crossed_bounds::specs::Ranges::crossed_ends))]
 fn ends_crossed(lo: Option<f64>, hi: Option<f64>) -> bool
     ensures { result ≡ crossed_ends lo hi }
 {
-    match lo {
-        None => false,
-        Some(a) => match hi {
-            None => false,
-            Some(b) => b < a,
-        },
+    match (lo, hi) {
+        (Some(a), Some(b)) => b < a,
+        _ => false,
     }
 }
 
+#[tactic(auto, unfolding(crossed_bounds::specs::Ranges::crossed_bounds))]
 fn bounds_crossed(b: Bounds) -> bool
     ensures { result ≡ crossed_bounds b }
 {
@@ -40,206 +35,111 @@ fn bounds_crossed(b: Bounds) -> bool
 }
 
 // There is a range, and it is crossed.
+#[tactic(auto, unfolding(crossed_bounds::specs::Ranges::crossed))]
 pub fn is_crossed(r: Option<Bounds>) -> bool
     ensures { result ≡ crossed r }
 {
-    match r {
-        None => false,
-        Some(b) => bounds_crossed(b),
-    }
-}
-
-// ---- of two ends the tighter one, of two equal ones the first
-
-fn higher_end(x: Option<f64>, y: Option<f64>) -> Option<f64>
-    ensures { result ≡ higher x y }
-{
-    match x {
-        None => y,
-        Some(a) => match y {
-            None => Some(a),
-            Some(b) => {
-                if a < b {
-                    return Some(b);
-                }
-                Some(a)
-            }
-        },
-    }
-}
-
-fn lower_end(x: Option<f64>, y: Option<f64>) -> Option<f64>
-    ensures { result ≡ lower x y }
-{
-    match x {
-        None => y,
-        Some(a) => match y {
-            None => Some(a),
-            Some(b) => {
-                if b < a {
-                    return Some(b);
-                }
-                Some(a)
-            }
-        },
-    }
-}
-
-fn higher_integer(a: i64, b: i64) -> i64
-    ensures { result ≡ higher_integer a b }
-{
-    if a < b {
-        return b;
-    }
-    a
-}
-
-fn lower_integer(a: i64, b: i64) -> i64
-    ensures { result ≡ lower_integer a b }
-{
-    if b < a {
-        return b;
-    }
-    a
+    r.is_some_and(bounds_crossed)
 }
 
 // ---- what is left of several ranges
 
-// The intersection of two ranges of one kind; two kinds have none.
-pub fn intersect(x: Bounds, y: Bounds) -> Option<Bounds>
-    ensures { result ≡ intersect x y }
+// Of two ends the tighter one, of two equal ones the first.
+#[tactic(auto, unfolding(crossed_bounds::specs::Ranges::higher))]
+fn higher_end(x: Option<f64>, y: Option<f64>) -> Option<f64>
+    ensures { result ≡ higher x y }
 {
-    match x {
-        Bounds::Real(a, b) => match y {
-            Bounds::Real(c, d) => {
-                let lo = higher_end(a, c);
-                let hi = lower_end(b, d);
-                Some(Bounds::Real(lo, hi))
-            }
-            Bounds::Integer(_, _) => None,
-        },
-        Bounds::Integer(a, b) => match y {
-            Bounds::Real(_, _) => None,
-            Bounds::Integer(c, d) => {
-                let lo = higher_integer(a, c);
-                let hi = lower_integer(b, d);
-                Some(Bounds::Integer(lo, hi))
-            }
-        },
+    match (x, y) {
+        (Some(a), Some(b)) => Some(if a < b { b } else { a }),
+        _ => x.or(y),
     }
 }
 
-fn intersect_with(x: Bounds, r: Option<Bounds>) -> Option<Bounds>
-    ensures { result ≡ intersect_with x r }
+#[tactic(auto, unfolding(crossed_bounds::specs::Ranges::lower))]
+fn lower_end(x: Option<f64>, y: Option<f64>) -> Option<f64>
+    ensures { result ≡ lower x y }
 {
-    match r {
-        None => None,
-        Some(y) => intersect(x, y),
+    match (x, y) {
+        (Some(a), Some(b)) => Some(if b < a { b } else { a }),
+        _ => x.or(y),
+    }
+}
+
+// The intersection of two ranges of one kind; two kinds have none.
+#[tactic(auto, unfolding(crossed_bounds::specs::Ranges::intersect, crossed_bounds::specs::Ranges::higher_integer, crossed_bounds::specs::Ranges::lower_integer))]
+pub fn intersect(x: Bounds, y: Bounds) -> Option<Bounds>
+    ensures { result ≡ intersect x y }
+{
+    match (x, y) {
+        (Bounds::Real(a, b), Bounds::Real(c, d)) => {
+            Some(Bounds::Real(higher_end(a, c), lower_end(b, d)))
+        }
+        (Bounds::Integer(a, b), Bounds::Integer(c, d)) => {
+            Some(Bounds::Integer(a.max(c), b.min(d)))
+        }
+        _ => None,
     }
 }
 
 // A crossed range doesn't count.
+#[tactic(auto, unfolding(crossed_bounds::specs::Ranges::uncrossed))]
 pub fn uncrossed(r: Option<Bounds>) -> Option<Bounds>
     ensures { result ≡ uncrossed r }
 {
-    match r {
-        None => None,
-        Some(b) => {
-            if bounds_crossed(b) {
-                return None;
-            }
-            Some(b)
-        }
-    }
+    r.filter(|b| !bounds_crossed(*b))
 }
 
 // What is kept of the members before, and one member more.
+#[tactic(auto, unfolding(crossed_bounds::specs::Ranges::take_in))]
 pub fn take_in(kept: Option<Bounds>, r: Option<Bounds>) -> Option<Bounds>
     ensures { result ≡ take_in kept r }
 {
-    match kept {
-        None => None,
-        Some(b) => intersect_with(b, uncrossed(r)),
-    }
+    intersect(kept?, uncrossed(r)?)
 }
 
-// ---- the range of attributes: the Rust's `Bounds::of`
+// ---- the range of attributes
 
-// ---- Real
-
-// An end that is marked as set, or none.
-fn end_of(set: bool, x: f64) -> Option<f64>
-    ensures { result ≡ end_read set x }
+// The number under bit p, where that is set.
+#[tactic(auto, unfolding(oce_model::specs::Attributes::declared_at))]
+fn declared_at(a: &Attrs, p: usize) -> Option<u64>
+    requires { p < NUMBER_COUNT }
+    ensures { result ≡ declared_at a.now p }
 {
-    if set {
-        return Some(x);
-    }
-    None
+    a.is_marked(p).then_some(a.number(p))
 }
 
-// The end is unset or finite.
-fn end_fine(set: bool, x: f64) -> bool
-    ensures { result ≡ end_fine set x }
+// The range of Real attributes; with an end that isn't finite there is none.
+#[tactic(auto, unfolding(crossed_bounds::specs::Ranges::real_range, crossed_bounds::specs::Ranges::real_end, crossed_bounds::specs::Ranges::finite_end))]
+fn real_range(a: &Attrs) -> Option<Bounds>
+    ensures { result ≡ real_range (declared_at a.now MIN_BIT) (declared_at a.now MAX_BIT) }
 {
-    if set {
-        return is_finite(x);
-    }
-    true
+    let min = declared_at(a, MIN_BIT).map(real_of_bits);
+    let max = declared_at(a, MAX_BIT).map(real_of_bits);
+    (min.is_none_or(is_finite) && max.is_none_or(is_finite)).then_some(Bounds::Real(min, max))
 }
 
-// The range of Real attributes.
-pub fn real_range(a: RealAttrs) -> Option<Bounds>
-    ensures { result ≡ real_read a }
+// The range of Integer attributes; min and max stand for an end that isn't set.
+#[tactic(auto, unfolding(crossed_bounds::specs::Ranges::integer_range))]
+fn integer_range(a: &Attrs, min: i64, max: i64) -> Bounds
+    ensures { Some result ≡ integer_range (record { min = min; max = max }) (declared_at a.now MIN_BIT) (declared_at a.now MAX_BIT) }
 {
-    let low = is_set(a.marks, MIN_BIT);
-    let high = is_set(a.marks, MAX_BIT);
-    if !end_fine(low, a.min) {
-        return None;
-    }
-    if !end_fine(high, a.max) {
-        return None;
-    }
-    let lo = end_of(low, a.min);
-    let hi = end_of(high, a.max);
-    Some(Bounds::Real(lo, hi))
+    Bounds::Integer(
+        declared_at(a, MIN_BIT).map_or(min, int_of_bits),
+        declared_at(a, MAX_BIT).map_or(max, int_of_bits),
+    )
 }
 
-// ---- Integer
-
-// An end that is marked as set, or the default.
-fn end_or(set: bool, x: i64, default: i64) -> i64
-    ensures { result ≡ cond set x default }
+// The range of attributes, by the defaults of the image's head; `None` where they have none.
+#[tactic(auto, unfolding(crossed_bounds::specs::Ranges::range_of))]
+pub fn range_of(image: &Image, a: &Attrs) -> Option<Bounds>
+    ensures { result ≡ range_of (model_of image.now).defaults a.now }
 {
-    if set {
-        return x;
+    if a.kind == Kind::Real as u8 {
+        real_range(a)
+    } else if a.kind == Kind::Integer as u8 {
+        let layout = image.layout();
+        Some(integer_range(a, layout.min, layout.max))
+    } else {
+        None
     }
-    default
-}
-
-// The range of Integer attributes; min and max are the defaults.
-pub fn integer_range(a: IntAttrs, min: i64, max: i64) -> Option<Bounds>
-    ensures { result ≡ integer_read a min max }
-{
-    let low = is_set(a.marks, MIN_BIT);
-    let high = is_set(a.marks, MAX_BIT);
-    let lo = end_or(low, a.min, min);
-    let hi = end_or(high, a.max, max);
-    Some(Bounds::Integer(lo, hi))
-}
-
-// ---- any kind
-
-// The range of the attributes at an offset, whatever their kind; `None` where they have none.
-pub fn range_of(image: &[u8], layout: Layout, at: usize) -> Option<Bounds>
-    requires { Laid image.now layout × (at ≤ longest_image + connector_attrs) × (at + attrs_length ≤ length image.now) }
-    ensures { result ≡ range_of (model_of image.now).defaults (attrs_at image.now at) }
-{
-    let kind = attrs_kind(image, at);
-    if kind == REAL_KIND {
-        return real_range(real_attrs(image, at));
-    }
-    if kind == INTEGER_KIND {
-        return integer_range(int_attrs(image, at), layout.min, layout.max);
-    }
-    None
 }

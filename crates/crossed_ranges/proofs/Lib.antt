@@ -1,4 +1,0 @@
--- What the functions over ranges return.
-pub mod Laws
--- Ranges of attributes read by value.
-pub mod Read
