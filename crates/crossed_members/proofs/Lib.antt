@@ -1,2 +1,2 @@
--- Laws of the members.
+-- A search of the numbers below one.
 pub mod Laws

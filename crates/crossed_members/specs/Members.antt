@@ -1,19 +1,18 @@
 -- The members of the groups of rule 5.4 by number, and which of them take part. FORMAT 14.
 use Rattle.std.specs.Prelude.{ℕ, ◌+◌, ◌<◌, Bool, true, cond, List}
 use Rattle.base.specs.Lists.{each, only}
-use Rattle.oce_model.specs.Model.{Model, connector, is_connector}
-use Rattle.image_accept.specs.declared.Layout.{Layout}
+use Rattle.oce_model.specs.Model.{Model, connector, connector_count, boundary_input_count, is_connector}
 use Rattle.crossed_bounds.specs.Ranges.{range_of}
 use Rattle.crossed_bounds.specs.CrossedBounds.{member_attrs, joins}
 use Rattle.crossed_bounds.specs.Ends.{Range}
 
 -- how many members there are
-abbrev pub member_count : Layout → ℕ
-member_count l = l.connectors.count + l.inputs.count
+abbrev pub member_count : Model → ℕ
+member_count m = connector_count m + boundary_input_count m
 
 -- x is one
-abbrev pub is_member : Layout → ℕ → Type 0
-is_member l x = x < member_count l
+abbrev pub is_member : Model → ℕ → Type 0
+is_member m x = x < member_count m
 
 -- a member's range
 abbrev pub member_range : Model → ℕ → Range

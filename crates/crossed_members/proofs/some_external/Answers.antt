@@ -1,16 +1,16 @@
--- `crossed_members::some_external` meets its contract.
-use borrow.Author.Rules.{rules}
-use Rattle.crossed_members.proofs.Laws.{looks-start, looks-turn, looks-all, looks-found}
+-- The search asks each connector once.
+use Rattle.std.proofs.Common.{◌∙◌, ap, refl, arith, rules, tests}
+use Rattle.std.proofs.lemmas.Iterator.{YieldsList-from_range}
+use Rattle.std.proofs.lemmas.Iterator.Search.{any_from_yields_List}
+use Rattle.base.specs.Lists.{below}
+use Rattle.oce_model.specs.Model.{model_of}
+use Rattle.crossed_bounds.specs.CrossedBounds.{member_external}
+use Rattle.crossed_members.proofs.Laws.{any-below}
 use Rattle.crossed_members.proofs.some_external.Goals as goal
 
-pub loop-i-init : goal.loop-i-init
-loop-i-init c = search (looks-start, rules)
-
-pub returns-then-member_external : goal.returns-then-member_external
-returns-then-member_external c = search (looks-found, rules)
-
-pub loop-i-preserved : goal.loop-i-preserved
-loop-i-preserved c = search (looks-turn, rules)
-
 pub returns : goal.returns
-returns c = search (looks-all, rules)
+returns c =
+    let f = member_external (model_of c.args.image.now) in
+    let n = c.connector_count.result in
+    any_from_yields_List f _ _ _ c.any.ensures.ran (YieldsList-from_range 0 n n refl (omega arith)) (λ x b q k. search (rules, tests))
+    ∙ any-below f n ∙ ap (λ k. below k f) c.connector_count.ensures.0
