@@ -1,11 +1,15 @@
 -- The members of rule 5.4 in buckets by the bytes of their iris: members with one iri are in one bucket, so a group that is reported is in a bucket
 -- of several members, one of them external.
-use Rattle.std.specs.Prelude.{ℕ, ◌+◌, ◌-◌, ◌%◌, ◌≤◌, ◌<◌, ◌≡◌, Bool, cond, ◌&&◌, ◌||◌, List, ◌++◌, eqb, ltb, length, get_or, take}
+use Rattle.std.specs.Prelude.{ℕ, ◌-◌, ◌%◌, ◌<◌, ◌≡◌, Bool, true, false, cond, ◌&&◌, List, eqb, length, get_or}
+use Rattle.std.specs.Prelude.{Option, Some, None}
 use Rattle.base.specs.Lists.{each, steps, only}
 use Rattle.numbers.specs.Bytes.{le64}
 use Rattle.oce_model.specs.Model.{Model}
-use Rattle.crossed_bounds.specs.CrossedBounds.{member_external, member_key}
+use Rattle.crossed_bounds.specs.CrossedBounds.{member_iri, member_external, member_key}
 use Rattle.crossed_members.specs.Members.{member_joins}
+use Rattle.crossed_buckets.specs.declared.Known.{Known}
+use Rattle.crossed_buckets.specs.declared.Known.TheVariants.{Empty, OneInner, SeveralInner, OneExternal, Crowded}
+use Rattle.crossed_buckets.specs.declared.Member.{Member}
 
 -- how many buckets there are: a prime, so that each of the eight bytes tells
 abbrev pub bucket_count : ℕ
@@ -17,24 +21,21 @@ bucket_of t = le64 t (length t - 8) % bucket_count
 
 -- ---- what is known of a bucket's members: none, one that isn't external, several that aren't, one external, several with an external one
 
-abbrev pub empty : ℕ
-empty = 0
-
-abbrev pub one_inner : ℕ
-one_inner = 1
-
-abbrev pub several_inner : ℕ
-several_inner = 2
-
-abbrev pub one_external : ℕ
-one_external = 3
-
-abbrev pub crowded : ℕ
-crowded = 4
-
 -- the same with one member more, which is external or not
-unfoldable pub noted : ℕ → Bool → ℕ
-noted k e = cond (eqb k empty) (cond e one_external one_inner) (cond (e || ltb several_inner k) crowded several_inner)
+unfoldable pub noted : Known → Bool → Known
+noted Empty e = cond e OneExternal OneInner
+noted OneInner e = cond e Crowded SeveralInner
+noted SeveralInner e = cond e Crowded SeveralInner
+noted OneExternal e = Crowded
+noted Crowded e = Crowded
+
+-- several, one of them external
+abbrev pub crowded : Known → Bool
+crowded Empty = false
+crowded OneInner = false
+crowded SeveralInner = false
+crowded OneExternal = false
+crowded Crowded = true
 
 module _ (m : Model) where
   -- a member's bucket
@@ -42,16 +43,16 @@ module _ (m : Model) where
   member_bucket x = bucket_of (member_key m x)
 
   -- bucket b, of which k is known, after member x
-  unfoldable pub after_member : ℕ → ℕ → ℕ → ℕ
+  unfoldable pub after_member : ℕ → ℕ → Known → Known
   after_member b x k = cond (member_joins m x && eqb (member_bucket x) b) (noted k (member_external m x)) k
 
   -- bucket b after the first n members
-  unfoldable pub known : ℕ → ℕ → ℕ
-  known n b = steps n (after_member b) empty
+  unfoldable pub known : ℕ → ℕ → Known
+  known n b = steps n (after_member b) Empty
 
   -- x takes part, and its bucket, after n members, is crowded
   unfoldable pub is_crowded : ℕ → ℕ → Bool
-  is_crowded n x = member_joins m x && eqb (known n (member_bucket x)) crowded
+  is_crowded n x = member_joins m x && crowded (known n (member_bucket x))
 
   -- those of the first i members
   unfoldable pub crowded_below : ℕ → ℕ → List ℕ
@@ -61,20 +62,36 @@ module _ (m : Model) where
   abbrev pub crowded_members : ℕ → List ℕ
   crowded_members n = crowded_below n n
 
-  -- the bucket of member x, or the number of buckets where it doesn't take part
-  unfoldable pub place_of : ℕ → ℕ
-  place_of x = cond (member_joins m x) (member_bucket x) bucket_count
+  -- the bucket of member x, if it takes part
+  unfoldable pub place_of : ℕ → Option ℕ
+  place_of x = cond (member_joins m x) (Some (member_bucket x)) None
 
--- of the first n members those of crowded buckets, by their buckets and what is known of these
-unfoldable pub collected : List ℕ → List ℕ → ℕ → List ℕ
-collected places column n = each n (λ x. only (ltb (get_or places x 0) bucket_count && eqb (get_or column (get_or places x 0) 0) crowded) x)
+  -- member x as code has it
+  unfoldable pub member_value : ℕ → Member
+  member_value x = record { iri = member_iri m x; bucket = place_of x }
+
+-- what stands for a member that is not there
+abbrev pub no_member : Member
+no_member = record { iri = 0; bucket = None }
+
+-- a bucket is crowded, by what is known of each
+abbrev pub at_crowd : List Known → Option ℕ → Bool
+at_crowd column None = false
+at_crowd column (Some b) = crowded (get_or column b Empty)
+
+-- the bucket of a member
+abbrev pub is_in_crowd : List Known → Member → Bool
+is_in_crowd column x = at_crowd column x.bucket
+
+-- those of the first n members whose bucket is crowded
+unfoldable pub collected_below : List Member → List Known → ℕ → List ℕ
+collected_below members column n = each n (λ x. only (is_in_crowd column (get_or members x no_member)) x)
+
+-- those of all
+abbrev pub collected : List Member → List Known → List ℕ
+collected members column = collected_below members column (length members)
 
 -- the column has what is known of each bucket after the first n members
-pub record Noted (m : Model) (n : ℕ) (column : List ℕ) : Type 0 where
+pub record Noted (m : Model) (n : ℕ) (column : List Known) : Type 0 where
   pub long : length column ≡ bucket_count
-  pub at : (b : ℕ) → b < bucket_count → get_or column b 0 ≡ known m n b
-
--- the list xs, after its first n, is continued by ys up to r
-pub record Continued (n : ℕ) (ys xs xs' : List ℕ) (r : ℕ) : Type 0 where
-  pub few : r ≤ n + 1
-  pub front : take r xs' ≡ take n xs ++ ys
+  pub at : (b : ℕ) → b < bucket_count → get_or column b Empty ≡ known m n b

@@ -2,191 +2,167 @@
 // several members and an external one.
 #![tactic(auto)]
 
-ghost use Rattle.std.specs.Prelude.{◌≡◌, ◌&&◌, ◌+◌, ◌%◌, ◌<◌, ◌≤◌, eqb, ltb, length, get_or, take, set};
-ghost use Rattle.base.specs.Lists.{tab, only};
-ghost use Rattle.oce_model.specs.Format.{text_tag};
+ghost use Rattle.std.specs.Prelude.{◌≡◌, ◌+◌, ◌%◌, ◌<◌, ◌≤◌, length, get_or, take};
+ghost use Rattle.base.specs.Lists.{tab};
 ghost use Rattle.oce_model.specs.Model.{model_of};
-ghost use Rattle.image_accept.specs.Layout.{Laid, Tabled};
 ghost use Rattle.structural_externals.specs.Columns.{Listed};
-ghost use Rattle.crossed_bounds.specs.CrossedBounds.{member_iri};
 ghost use Rattle.crossed_members.specs.Members.{member_count, is_member};
-ghost use Rattle.crossed_buckets.specs.Buckets.{bucket_count, bucket_of, place_of, crowded, noted, collected, crowded_members, Noted, Continued};
+ghost use Rattle.crossed_buckets.specs.Buckets.{bucket_count, bucket_of, is_in_crowd, crowded, noted, collected, crowded_members, member_value, Noted};
 
 use crossed_members::{member_external, member_iri, member_joins};
-use image_accept::Layout;
-use image_texts::text_of;
+use image_records::Image;
 use numbers::{at64, read64};
 
 // How many buckets there are: a prime, so that each of the eight bytes tells.
 const BUCKETS: usize = 1021;
 
+// How many bytes tell the bucket of a text.
+const TELLING_BYTES: usize = 8;
+
 // What is known of a bucket's members.
-const EMPTY: u8 = 0;
+#[derive(Clone, Copy)]
+enum Known {
+    Empty,
+    OneInner,
+    SeveralInner,
+    OneExternal,
+    Crowded,
+}
 
-const ONE_INNER: u8 = 1;
+// A member: the text number of its iri, and its bucket, if it takes part.
+#[derive(Clone, Copy)]
+pub struct Member {
+    pub iri: u16,
+    pub bucket: Option<u16>,
+}
 
-const SEVERAL_INNER: u8 = 2;
-
-const ONE_EXTERNAL: u8 = 3;
-
-const CROWDED: u8 = 4;
+// What stands where no member was noted.
+pub const NO_MEMBER: Member = Member {
+    iri: 0,
+    bucket: None,
+};
 
 // ---- one member
 
 // The bucket of a number.
-fn narrow(h: u64) -> usize
+fn narrow(h: u64) -> u16
     ensures { (result ≡ h % bucket_count) × (result < bucket_count) }
 {
-    (h % BUCKETS as u64) as usize
+    (h % BUCKETS as u64) as u16
 }
 
 // The bucket of a byte string, by its last eight bytes or all of fewer.
-fn bucket_of(t: &[u8]) -> usize
+fn bucket_of(t: &[u8]) -> u16
     ensures { (result ≡ bucket_of t.now) × (result < bucket_count) }
 {
     let n = t.len();
-    if n < 8 {
-        return narrow(at64(t, 0));
+    if n < TELLING_BYTES {
+        narrow(at64(t, 0))
+    } else {
+        narrow(read64(t, n - TELLING_BYTES))
     }
-    narrow(read64(t, n - 8))
 }
 
-// The bucket of member x, whose iri has the number i; one that doesn't take part has none, which is the number
-// of buckets.
-fn place_of<'a>(image: &'a [u8], layout: Layout, texts: &'a [usize], x: usize, i: usize) -> usize
-    requires { Laid image.now layout × Tabled text_tag image.now texts.now × (i ≡ member_iri (model_of image.now) x) }
-    ensures { result ≡ place_of (model_of image.now) x }
+fn read_member(image: &Image, x: usize) -> Member
+    requires { is_member (model_of image.now) x }
+    ensures { result ≡ member_value (model_of image.now) x }
 {
-    if member_joins(image, layout, x) {
-        return bucket_of(text_of(image, layout, texts, i));
+    let i = member_iri(image, x);
+    let bucket = if member_joins(image, x) {
+        Some(bucket_of(image.text(i)))
+    } else {
+        None
+    };
+    Member {
+        iri: i as u16,
+        bucket,
     }
-    BUCKETS
 }
 
-// What is known of a bucket with one member more.
-fn with_member(known: u8, external: bool) -> u8
-    ensures { result ≡ noted known external }
-{
-    if known == EMPTY {
-        if external {
-            return ONE_EXTERNAL;
+impl Known {
+    // The same with one member more.
+    #[tactic(auto, unfolding(crate::specs::Buckets::noted))]
+    fn with_member(self, external: bool) -> Known
+        ensures { result ≡ noted self external }
+    {
+        match (self, external) {
+            (Known::Empty, true) => Known::OneExternal,
+            (Known::Empty, false) => Known::OneInner,
+            (Known::OneInner | Known::SeveralInner, false) => Known::SeveralInner,
+            _ => Known::Crowded,
         }
-        return ONE_INNER;
     }
-    if external {
-        return CROWDED;
+
+    fn is_crowded(self) -> bool
+        ensures { result ≡ crowded self }
+    {
+        matches!(self, Known::Crowded)
     }
-    if SEVERAL_INNER < known {
-        return CROWDED;
-    }
-    SEVERAL_INNER
 }
 
 // ---- what is known of each bucket
 
-// The bucket b with member x, if b is one.
-fn note_in(image: &[u8], layout: Layout, externals: &[u32], x: usize, b: usize, known: &mut [u8])
-    requires { Laid image.now layout × Listed (model_of image.now) externals.now × (b ≡ place_of (model_of image.now) x) × Noted (model_of image.now) x known.old }
-    ensures { Noted (model_of image.now) (x + 1) known.new }
+// Member x, which its bucket has then, if it takes part.
+fn note_one(image: &Image, externals: &[u32], x: usize, known: &mut [Known]) -> Member
+    requires { Listed (model_of image.now) externals.now × is_member (model_of image.now) x × Noted (model_of image.now) x known.old }
+    ensures { (result ≡ member_value (model_of image.now) x) × Noted (model_of image.now) (x + 1) known.new }
 {
-    if b < BUCKETS {
-        let external = member_external(image, layout, externals, x);
-        known[b] = with_member(known[b], external);
+    let member = read_member(image, x);
+    if let Some(b) = member.bucket {
+        let b = usize::from(b);
+        known[b] = known[b].with_member(member_external(image, externals, x));
     }
-}
-
-// Member x: its iri, its bucket, and what is known of that then.
-fn note_one<'a>(
-    image: &'a [u8],
-    layout: Layout,
-    texts: &'a [usize],
-    externals: &'a [u32],
-    x: usize,
-    iri: &mut [u16],
-    places: &mut [usize],
-    known: &mut [u8],
-)
-    requires { Laid image.now layout × Tabled text_tag image.now texts.now × Listed (model_of image.now) externals.now × is_member layout x × (x < length iri.old) × (x < length places.old) × Noted (model_of image.now) x known.old }
-    ensures iri { iri.new ≡ set iri.old x (member_iri (model_of image.now) x) }
-    ensures places { places.new ≡ set places.old x (place_of (model_of image.now) x) }
-    ensures known { Noted (model_of image.now) (x + 1) known.new }
-{
-    let i = member_iri(image, layout, x);
-    iri[x] = i as u16;
-    let b = place_of(image, layout, texts, x, i);
-    places[x] = b;
-    note_in(image, layout, externals, x, b, known);
+    member
 }
 
 // All members.
-fn note_all<'a>(
-    image: &'a [u8],
-    layout: Layout,
-    texts: &'a [usize],
-    externals: &'a [u32],
-    iri: &mut [u16],
-    places: &mut [usize],
-    known: &mut [u8],
-)
-    requires { Laid image.now layout × Tabled text_tag image.now texts.now × Listed (model_of image.now) externals.now × (length iri.old ≡ member_count layout) × (member_count layout ≤ length places.old) × Noted (model_of image.now) 0 known.old }
-    ensures iri { iri.new ≡ tab (member_count layout) (member_iri (model_of image.now)) }
-    ensures places { take (member_count layout) places.new ≡ tab (member_count layout) (place_of (model_of image.now)) }
-    ensures known { Noted (model_of image.now) (member_count layout) known.new }
+fn note_all(image: &Image, externals: &[u32], members: &mut [Member], known: &mut [Known])
+    requires { Listed (model_of image.now) externals.now × (length members.old ≡ member_count (model_of image.now)) × Noted (model_of image.now) 0 known.old }
+    ensures members { members.new ≡ tab (member_count (model_of image.now)) (member_value (model_of image.now)) }
+    ensures known { Noted (model_of image.now) (member_count (model_of image.now)) known.new }
 {
-    let mut x = 0;
-    while x < iri.len() {
-        note_one(image, layout, texts, externals, x, iri, places, known);
-        x += 1;
+    for x in 0..members.len() {
+        members[x] = note_one(image, externals, x, known);
     }
 }
 
 // ---- the members that may be reported
 
-// Member x, whose bucket is b, behind the n that were collected, if that is crowded. How many there are then.
-fn collect_one(known: &[u8], b: usize, x: usize, records: &mut [usize], n: usize) -> usize
-    requires { (bucket_count ≤ length known.now) × (n < length records.old) }
-    ensures { Continued n (only (ltb b bucket_count && eqb (get_or known.now b 0) crowded) x) records.old records.new result }
+// The bucket of a member is crowded.
+fn is_in_crowd(known: &[Known], member: Member) -> bool
+    ensures { result ≡ is_in_crowd known.now member }
 {
-    if b < BUCKETS {
-        if known[b] == CROWDED {
-            records[n] = x;
-            return n + 1;
-        }
-        return n;
-    }
-    n
+    member.bucket.is_some_and(|b| known.get(usize::from(b)).is_some_and(|k| k.is_crowded()))
 }
 
-// Those of the first count members, by their buckets and what is known of these.
-fn collect_known(count: usize, places: &[usize], known: &[u8], records: &mut [usize]) -> usize
-    requires { (bucket_count ≤ length known.now) × (count ≤ length places.now) × (count ≤ length records.old) }
-    ensures { (take result records.new ≡ collected places.now known.now count) × (result ≤ count) }
+// Those of the members whose bucket is crowded, at the front of records; how many there are.
+fn collect_known(members: &[Member], known: &[Known], records: &mut [usize]) -> usize
+    requires { length members.now ≤ length records.old }
+    ensures { (take result records.new ≡ collected members.now known.now) × (result ≤ length members.now) }
 {
     let mut n = 0;
-    let mut x = 0;
-    while x < count {
-        n = collect_one(known, places[x], x, records, n);
-        x += 1;
+    for (x, member) in members.iter().enumerate() {
+        if is_in_crowd(known, *member) {
+            records[n] = x;
+            n += 1;
+        }
     }
     n
 }
 
-// Those members that take part and whose bucket is crowded, at the front of records; how many there are. The
-// column iri then has the text numbers of all members' iris, and places their buckets.
-pub fn collect_crowded<'a>(
-    image: &'a [u8],
-    layout: Layout,
-    texts: &'a [usize],
-    externals: &'a [u32],
-    iri: &mut [u16],
-    places: &mut [usize],
+// The members, in a column that has a place for each, and those whose bucket is crowded, at the front of
+// records; how many these are.
+pub fn collect_crowded(
+    image: &Image,
+    externals: &[u32],
+    members: &mut [Member],
     records: &mut [usize],
 ) -> usize
-    requires { Laid image.now layout × Tabled text_tag image.now texts.now × Listed (model_of image.now) externals.now × (length iri.old ≡ member_count layout) × (member_count layout ≤ length places.old) × (member_count layout ≤ length records.old) }
-    ensures records { (take result records.new ≡ crowded_members (model_of image.now) (member_count layout)) × (result ≤ member_count layout) }
-    ensures iri { iri.new ≡ tab (member_count layout) (member_iri (model_of image.now)) }
+    requires { Listed (model_of image.now) externals.now × (length members.old ≡ member_count (model_of image.now)) × (member_count (model_of image.now) ≤ length records.old) }
+    ensures records { (take result records.new ≡ crowded_members (model_of image.now) (member_count (model_of image.now))) × (result ≤ member_count (model_of image.now)) }
+    ensures members { members.new ≡ tab (member_count (model_of image.now)) (member_value (model_of image.now)) }
 {
-    let mut known = [EMPTY; BUCKETS];
-    note_all(image, layout, texts, externals, iri, places, &mut known);
-    collect_known(iri.len(), places, &known, records)
+    let mut known = [Known::Empty; BUCKETS];
+    note_all(image, externals, members, &mut known);
+    collect_known(members, &known, records)
 }

@@ -1,14 +1,22 @@
--- `crossed_buckets::note_one` meets its contract.
-use Rattle.crossed_buckets.proofs.Laws.{set_same}
+-- A member that takes part changes what is known of its bucket.
+use mathlib.Core.Path.{sym, ap, ◌∙◌}
+use native.Mathlib.Omega.{arith}
+use borrow.Author.Rules.{rules}
+use Rattle.std.proofs.Common.{Some}
+use Rattle.crossed_buckets.proofs.Laws.{value-inside, noted-turn, noted-skip}
 use Rattle.crossed_buckets.proofs.note_one.Goals as goal
 
-pub returns : goal.returns
-returns c =
-    let args = c.args in
-    let iri = c.member_iri-i.ensures.0 in
-    let place = c.place_of-b.ensures in
-    record {
-      iri = set_same args.iri.now args.x iri;
-      places = set_same args.places.now args.x place;
-      known = c.note_in.ensures;
-    }
+pub slice_copy_out-with_member : goal.slice_copy_out-with_member
+slice_copy_out-with_member c = let pre = c.requires in omega (arith, value-inside _ _ c.read_member-member.ensures c.in-Some.is, pre.2.long)
+
+pub bounds-known-b : goal.bounds-known-b
+bounds-known-b c = let pre = c.requires in omega (arith, value-inside _ _ c.read_member-member.ensures c.in-Some.is, pre.2.long)
+
+pub returns-in-Some : goal.returns-in-Some
+returns-in-Some c =
+    let pre = c.requires in
+    let told = c.read_member-member.ensures in
+    (told, noted-turn pre.2 told (c.in-Some.is ∙ ap Some (sym c.from-b.ensures)) c.member_external.ensures c.with_member.ensures)
+
+pub returns-in_default : goal.returns-in_default
+returns-in_default c = search (noted-skip, rules)
