@@ -20,7 +20,7 @@ use Rattle.unify.specs.Slots.{Slots, slot, value}
 use Rattle.unify.specs.Unify.{declarations}
 use Rattle.unify.specs.declared.Detail.{Detail}
 use Rattle.unify.proofs.Details.{kind_of-le}
-use Rattle.unify_slots.specs.Table.{Inside}
+use Rattle.unify_slots.specs.Slots.{Inside}
 use Rattle.unify_seen.specs.Seen.{Holds, TakenIn, Sees, shows}
 
 -- ---- bits
@@ -48,39 +48,23 @@ bit-zero p = rw (zero-div (2 ^ p))
 
 -- ---- one member
 
-module _ (k kind marks b : ℕ) where
-  pub taken-marks : TakenIn k kind marks b (bit_or b marks)
-  taken-marks = record { old = λ p h. (or-clear b marks p h).0; new = λ p f h. (or-clear b marks p h).1 }
-
-  pub taken_none : (kind ≡ k → ⊥) → TakenIn k kind marks b b
-  taken_none n = record { old = λ p h. h; new = λ p f h. absurd (n f) }
+pub taken-marks : (k kind marks b : ℕ) → TakenIn k kind marks b (bit_or b marks)
+taken-marks k kind marks b = record { old = λ p h. (or-clear b marks p h).0; new = λ p f h. (or-clear b marks p h).1 }
 
 -- ---- all members
 
 module _ {σ : Slots} {js : List ℕ} where
-  holds-turn : {k b n b' j kind marks : ℕ} → Holds k σ js b n → j ≡ get_or js n 0 → kind ≡ (slot σ j).kind → marks ≡ (slot σ j).marks → TakenIn k kind marks b b' → Holds k σ js b' (n + 1)
-  holds-turn {k} {b} {n} {b'} {j} {kind} {marks} v ej ek em t = record { each = λ i p h. arm i p h (ℕ_discrete i n) }
+  holds-turn : {k b n b' : ℕ} → Holds k σ js b n → TakenIn k (slot σ (get_or js n 0)).kind (slot σ (get_or js n 0)).marks b b' → Holds k σ js b' (n + 1)
+  holds-turn {k} {b} {n} {b'} v t = record { each = λ i p h. arm i p h (ℕ_discrete i n) }
     where
       arm : (i p : ℕ) → i < n + 1 → Dec (i ≡ n) → (slot σ (get_or js i 0)).kind ≡ k → bit b' p ≡ false → bit (slot σ (get_or js i 0)).marks p ≡ false
-      arm i p h (yes e) f c =
-          let q : j ≡ get_or js i 0 = cc in
-          let g : kind ≡ k = cc in
-          let o : bit marks p ≡ false = t.new p g c in
-          cc
+      arm i p h (yes e) f c = rw e (t.new p (rw e at f) c)
       arm i p h (no m) f c = v.each i p (omega arith) f (t.old p c)
 
-  pub sees-start : {real integer : ℕ} → Sees σ js real integer 0
-  sees-start = record { within = omega arith; reals = record { each = λ i p h. absurd (omega arith) }; integers = record { each = λ i p h. absurd (omega arith) } }
-
-  pub sees-turn : {real integer n real' integer' j kind marks : ℕ} → Sees σ js real integer n → j ≡ get_or js n 0 → kind ≡ (slot σ j).kind → marks ≡ (slot σ j).marks
-      → TakenIn real_kind kind marks real real' → TakenIn integer_kind kind marks integer integer' → n < length js → Sees σ js real' integer' (n + 1)
-  sees-turn v ej ek em t u h = record { within = omega arith; reals = holds-turn v.reals ej ek em t; integers = holds-turn v.integers ej ek em u }
-
-  pub sees-all : {real integer n : ℕ} → Sees σ js real integer n → length js ≤ n → Sees σ js real integer (length js)
-  sees-all {n = n} v h = let e : length js ≡ n = omega (arith, v.within) in rw e v
-
-pub member-inside : (n : ℕ) (js : List ℕ) (i : ℕ) {j : ℕ} → Inside n js → i < length js → j ≡ get_or js i 0 → j < n
-member-inside n js i v h e = rw e (v.each i h)
+  pub sees-turn : {real integer n real' integer' : ℕ} → Sees σ js real integer n
+      → TakenIn real_kind (slot σ (get_or js n 0)).kind (slot σ (get_or js n 0)).marks real real'
+      → TakenIn integer_kind (slot σ (get_or js n 0)).kind (slot σ (get_or js n 0)).marks integer integer' → n < length js → Sees σ js real' integer' (n + 1)
+  sees-turn v t u h = record { within = omega arith; reals = holds-turn v.reals t; integers = holds-turn v.integers u }
 
 -- ---- a detail
 
@@ -133,9 +117,3 @@ nothing-shows real integer et e d = arm (eqb real 0) refl (eqb integer 0) refl (
     arm true f true g h false = rw (eqb-true integer 0 g) (bit-zero (bit_of d))
     arm true f false g h k = absurd (false≢true h)
     arm false f c g h k = absurd (false≢true h)
-
-pub nothing-both : (real integer : ℕ) → real ≡ 0 → eqb integer 0 ≡ (eqb real 0 && eqb integer 0)
-nothing-both real integer e = rw (eq-eqb real 0 e)
-
-pub nothing-not : (real integer : ℕ) → (real ≡ 0 → ⊥) → false ≡ (eqb real 0 && eqb integer 0)
-nothing-not real integer n = rw (ne_eqb real 0 n)

@@ -1,12 +1,6 @@
 -- `unify_seen::take_in` meets its contract.
-use borrow.Author.Rules.{rules}
-use Rattle.unify_seen.proofs.Laws.{taken-marks, taken_none}
+use Rattle.unify_seen.proofs.Laws.{taken-marks}
 use Rattle.unify_seen.proofs.take_in.Goals as goal
 
-ruleset mine = (taken-marks, taken_none, rules)
-
-pub returns-then-kind-wanted : goal.returns-then-kind-wanted
-returns-then-kind-wanted c = search mine
-
-pub returns : goal.returns
-returns c = search mine
+pub returns-then-a-wanted : goal.returns-then-a-wanted
+returns-then-a-wanted c = taken-marks c.args.wanted c.args.a.now.kind c.args.a.now.marks c.args.had
