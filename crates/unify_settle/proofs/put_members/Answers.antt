@@ -1,27 +1,12 @@
 -- `unify_settle::put_members` meets its contract.
-use borrow.Author.Rules.{rules}
-use Rattle.unify_settle.proofs.Laws.{puts-start, puts-turn, puts-done}
+use Rattle.oce_model.specs.Attributes.{no_attrs}
+use Rattle.unify.specs.Slots.{slot}
+use Rattle.unify_settle.proofs.Laws.{put-next, put-done}
 use Rattle.unify_settle.proofs.put_members.Goals as goal
 
-ruleset mine = (puts-start, puts-turn, puts-done, rules)
-
-pub loop-i-init : goal.loop-i-init
-loop-i-init c = search mine
-
-pub put_member-requires : goal.put_member-requires
-put_member-requires c = search mine
-
-pub overflow_add-i : goal.overflow_add-i
-overflow_add-i c = search mine
-
-pub loop-i-smaller : goal.loop-i-smaller
-loop-i-smaller c = search mine
-
-pub loop-i-preserved : goal.loop-i-preserved
-loop-i-preserved c = search mine
-
-pub shape_of-table : goal.shape_of-table
-shape_of-table c = search mine
+pub loop-j-preserved : goal.loop-j-preserved
+unfolding slot no_attrs
+loop-j-preserved c = rw c.put.ensures (put-next c.args.detail c.args.v c.args.members.now c.args.slots.now c.loop-j.slots c.loop-j.j-index c.loop-j.invariant c.loop-j-test.true)
 
 pub returns : goal.returns
-returns c = search mine
+returns c = put-done c.args.detail c.args.v c.args.members.now c.args.slots.now c.loop-j.slots c.loop-j.j-index c.loop-j.invariant c.loop-j-test.false
