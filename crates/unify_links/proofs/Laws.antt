@@ -10,7 +10,7 @@ use mathlib.Core.Bool.{Bool, true, false, cond, ◌&&◌}
 use mathlib.Core.List.{List, [], ◌∷◌, ◌++◌, append-nil}
 use lib.Dec.{eqb, ltb}
 use lib.ListN.{length, get_or, set, take, length-set, length-append, get_or-append}
-use lib.Seq.{get_or-set_same, get_or-set_other, get_or-append_seam, take-suc-set}
+use lib.Seq.{get_or-set_same, get_or-set_other, get_or-append_seam, take-suc-set, length-take-le}
 use borrow.Author.Tests.{eq-eqb, ne_eqb, lt-ltb, le-ltb, ltb-true, ltb-false}
 use Rattle.base.specs.Lists.{each, only}
 use Rattle.base.proofs.Lists.{and_parts, each_next, each-add, each_same}
@@ -21,15 +21,12 @@ use Rattle.oce_model.specs.declared.Connection.{Connection}
 use Rattle.oce_model.specs.declared.ConnectorId.{ConnectorId}
 use Rattle.oce_model.specs.declared.ConnectorFront.{ConnectorFront}
 use Rattle.oce_model.specs.declared.BoundaryOutputFront.{BoundaryOutputFront}
-use Rattle.image_accept.specs.Layout.{Laid}
-use Rattle.image_accept.specs.declared.Layout.{Layout}
 use Rattle.image_records.specs.Records.{connector_read, connection_read, output_read}
 use Rattle.structural.specs.Structural.{in_range, matches}
 use Rattle.structural_degrees.specs.Columns.{Degrees}
 use Rattle.unify.specs.Clusters.{drives, sound, target, alias, driven, is_root}
-use Rattle.unify_slots.specs.Table.{slot_count, Inside}
-use Rattle.image_records.proofs.Laws.{connectors-counted, connections-counted, outputs-counted, connectors-few, connections-few, boundary-outputs-few}
-use Rattle.unify_links.specs.Links.{link_count, root_at, connection_root, output_root, root_of, target_of, belongs, member, Empty, Leads, Linked, Gathered}
+use Rattle.unify_slots.specs.Slots.{slot_count, Inside}
+use Rattle.unify_links.specs.Links.{link_count, root_at, connection_root, output_root, root_of, target_of, belongs, member, Empty, Headed, Leads, Linked, Gathered}
 use Rattle.oce_model.specs.declared.ConnectorId.{ConnectorId}
 
 -- ---- roots
@@ -45,127 +42,115 @@ same-root e = omega (arith, ap (λ (x : Option ConnectorId). number x) e)
 no-root : {r : ℕ} → None ≡ root_at r → ⊥
 no-root e = omega (arith, ap (λ (x : Option ConnectorId). number x) e)
 
--- ---- by the layout
-
-module _ {s : List ℕ} {l : Layout} (h : Laid s l) where
-  pub links-count : l.connections.count + l.outputs.count ≡ link_count (model_of s)
-  links-count = omega (arith, connections-counted h, outputs-counted h)
-
-  pub links-fit : l.connections.count + l.outputs.count < 18446744073709551616
-  links-fit = omega (arith, connections-few h, boundary-outputs-few h)
-
-  -- link k is a connection, or else a boundary output
-  pub link-output : {k : ℕ} → k < link_count (model_of s) → l.connections.count ≤ k → k - l.connections.count < l.outputs.count
-  link-output k o = omega (arith, connections-counted h, outputs-counted h)
-
-  pub target_fits : {k : ℕ} → k < link_count (model_of s) → l.connectors.count + (k - l.connections.count) < 18446744073709551616
-  target_fits k = omega (arith, connectors-few h, connections-few h, boundary-outputs-few h, connections-counted h, outputs-counted h)
-
 -- ---- roots and targets, as code reads them
 
-pub degree-there : {s ds : List ℕ} {l : Layout} {t : ℕ} → Degrees (model_of s) ds → Laid s l → t < l.connectors.count → t < length ds
-degree-there g h k = omega (arith, connectors-counted h, g.room)
+pub degree-there : {m : Model} {ds : List ℕ} {n t : ℕ} → Degrees m ds → n ≡ connector_count m → t < n → t < length ds
+degree-there g e k = omega (arith, g.room)
 
-module _ {s : List ℕ} {l : Layout} (h : Laid s l) {ds : List ℕ} (g : Degrees (model_of s) ds) (k : ℕ) {q : Connection} (eq : q ≡ connection_read (connection (model_of s) k)) where
-  same_from : q.from.0 ≡ (connection (model_of s) k).from
-  unfolding connection_read
-  same_from = ap (λ (c : Connection). c.from.0) eq
+module _ (m : Model) {n : ℕ} (en : n ≡ connector_count m) where
+  module _ {ds : List ℕ} (g : Degrees m ds) (k : ℕ) {q : Connection} (eq : q ≡ connection_read (connection m k)) where
+    same_from : q.from.0 ≡ (connection m k).from
+    unfolding connection_read
+    same_from = ap (λ (c : Connection). c.from.0) eq
 
-  same-to : q.to.0 ≡ (connection (model_of s) k).to
-  unfolding connection_read
-  same-to = ap (λ (c : Connection). c.to.0) eq
+    same-to : q.to.0 ≡ (connection m k).to
+    unfolding connection_read
+    same-to = ap (λ (c : Connection). c.to.0) eq
 
-  pub connection-drives : q.from.0 < l.connectors.count → q.to.0 < l.connectors.count → get_or ds q.to.0 0 ≡ 1 → Some q.from ≡ connection_root (model_of s) (connection (model_of s) k)
-  unfolding connection_root drives in_range connection_read
-  connection-drives a b e =
-      let a' : (connection (model_of s) k).from < connector_count (model_of s) = rw (connectors-counted h, same_from) at a in
-      let b' : (connection (model_of s) k).to < connector_count (model_of s) = rw (connectors-counted h, same-to) at b in
-      let e' : get_or ds (connection (model_of s) k).to 0 ≡ 1 = rw same-to at e in
-      rw (lt-ltb _ _ a', lt-ltb _ _ b', eq-eqb _ _ (sym (g.each _ b') ∙ e')) (ap (λ (c : Connection). Some c.from) eq)
+    pub connection-drives : q.from.0 < n → q.to.0 < n → get_or ds q.to.0 0 ≡ 1 → Some q.from ≡ connection_root m (connection m k)
+    unfolding connection_root drives in_range connection_read
+    connection-drives a b e =
+        let a' : (connection m k).from < connector_count m = rw (en, same_from) at a in
+        let b' : (connection m k).to < connector_count m = rw (en, same-to) at b in
+        let e' : get_or ds (connection m k).to 0 ≡ 1 = rw same-to at e in
+        rw (lt-ltb _ _ a', lt-ltb _ _ b', eq-eqb _ _ (sym (g.each _ b') ∙ e')) (ap (λ (c : Connection). Some c.from) eq)
 
-  pub connection-from : l.connectors.count ≤ q.from.0 → None ≡ connection_root (model_of s) (connection (model_of s) k)
-  unfolding connection_root drives in_range
-  connection-from a =
-      let a' : connector_count (model_of s) ≤ (connection (model_of s) k).from = rw (connectors-counted h, same_from) at a in
-      rw (le-ltb _ _ a')
+    pub connection-from : n ≤ q.from.0 → None ≡ connection_root m (connection m k)
+    unfolding connection_root drives in_range
+    connection-from a =
+        let a' : connector_count m ≤ (connection m k).from = rw (en, same_from) at a in
+        rw (le-ltb _ _ a')
 
-  pub connection-to : q.from.0 < l.connectors.count → l.connectors.count ≤ q.to.0 → None ≡ connection_root (model_of s) (connection (model_of s) k)
-  unfolding connection_root drives in_range
-  connection-to a b =
-      let a' : (connection (model_of s) k).from < connector_count (model_of s) = rw (connectors-counted h, same_from) at a in
-      let b' : connector_count (model_of s) ≤ (connection (model_of s) k).to = rw (connectors-counted h, same-to) at b in
-      rw (lt-ltb _ _ a', le-ltb _ _ b')
+    module _ (a : q.from.0 < n) where
+      from-there : (connection m k).from < connector_count m
+      from-there = rw (en, same_from) at a
 
-  pub connection-degree : q.from.0 < l.connectors.count → q.to.0 < l.connectors.count → (get_or ds q.to.0 0 ≡ 1 → ⊥) → None ≡ connection_root (model_of s) (connection (model_of s) k)
-  unfolding connection_root drives in_range
-  connection-degree a b e =
-      let a' : (connection (model_of s) k).from < connector_count (model_of s) = rw (connectors-counted h, same_from) at a in
-      let b' : (connection (model_of s) k).to < connector_count (model_of s) = rw (connectors-counted h, same-to) at b in
-      rw (lt-ltb _ _ a', lt-ltb _ _ b', ne_eqb _ _ (λ x. e (ap (λ (t : ℕ). get_or ds t 0) same-to ∙ g.each _ b' ∙ x)))
+      pub connection-to : n ≤ q.to.0 → None ≡ connection_root m (connection m k)
+      unfolding connection_root drives in_range
+      connection-to b =
+          let b' : connector_count m ≤ (connection m k).to = rw (en, same-to) at b in
+          rw (lt-ltb _ _ from-there, le-ltb _ _ b')
 
-module _ {s : List ℕ} {l : Layout} (h : Laid s l) (i : ℕ) {q : BoundaryOutputFront} (eq : q ≡ output_read (boundary_output (model_of s) i)) where
-  same_source : q.source.0 ≡ (boundary_output (model_of s) i).source
-  unfolding output_read
-  same_source = ap (λ (o : BoundaryOutputFront). o.source.0) eq
+      pub connection-degree : q.to.0 < n → (get_or ds q.to.0 0 ≡ 1 → ⊥) → None ≡ connection_root m (connection m k)
+      unfolding connection_root drives in_range
+      connection-degree b e =
+          let b' : (connection m k).to < connector_count m = rw (en, same-to) at b in
+          rw (lt-ltb _ _ from-there, lt-ltb _ _ b', ne_eqb _ _ (λ x. e (ap (λ (t : ℕ). get_or ds t 0) same-to ∙ g.each _ b' ∙ x)))
 
-  pub output-far : l.connectors.count ≤ q.source.0 → None ≡ output_root (model_of s) (boundary_output (model_of s) i)
-  unfolding output_root sound
-  output-far a =
-      let a' : connector_count (model_of s) ≤ (boundary_output (model_of s) i).source = rw (connectors-counted h, same_source) at a in
-      rw (le-ltb _ _ a')
+  module _ (i : ℕ) {q : BoundaryOutputFront} (eq : q ≡ output_read (boundary_output m i)) where
+    same_source : q.source.0 ≡ (boundary_output m i).source
+    unfolding output_read
+    same_source = ap (λ (o : BoundaryOutputFront). o.source.0) eq
 
-  module _ (a : q.source.0 < l.connectors.count) {c : ConnectorFront} (ec : c ≡ connector_read (connector (model_of s) q.source.0)) where
-    near : (boundary_output (model_of s) i).source < connector_count (model_of s)
-    near = rw (connectors-counted h, same_source) at a
-
-    same-dir : c.dir ≡ (connector (model_of s) (boundary_output (model_of s) i).source).dir
-    unfolding connector_read
-    same-dir = ap (λ (c : ConnectorFront). c.dir) ec ∙ ap (λ (x : ℕ). (connector (model_of s) x).dir) same_source
-
-    same-type : c.value_type ≡ (connector (model_of s) (boundary_output (model_of s) i).source).value_type
-    unfolding connector_read
-    same-type = ap (λ (c : ConnectorFront). c.value_type) ec ∙ ap (λ (x : ℕ). (connector (model_of s) x).value_type) same_source
-
-    pub output-in : c.dir ≡ dir_in → None ≡ output_root (model_of s) (boundary_output (model_of s) i)
+    pub output-far : n ≤ q.source.0 → None ≡ output_root m (boundary_output m i)
     unfolding output_root sound
-    output-in e = rw (lt-ltb _ _ near, eq-eqb _ _ (sym same-dir ∙ e))
+    output-far a =
+        let a' : connector_count m ≤ (boundary_output m i).source = rw (en, same_source) at a in
+        rw (le-ltb _ _ a')
 
-    module _ (at : ℕ) {k : ℕ} (d : c.dir ≡ dir_in → ⊥) (ea : attrs_at s at ≡ (boundary_output (model_of s) i).attrs) (ek : k ≡ (attrs_at s at).kind) where
-      pub output-sound : k ≡ c.value_type → Some q.source ≡ output_root (model_of s) (boundary_output (model_of s) i)
-      unfolding output_root sound output_read
-      output-sound e =
-          rw (lt-ltb _ _ near, ne_eqb _ _ (λ x. d (same-dir ∙ x)), eq-eqb _ _ (ap (λ a. a.kind) (sym ea) ∙ sym ek ∙ e ∙ same-type))
-          (ap (λ (o : BoundaryOutputFront). Some o.source) eq)
+    module _ (a : q.source.0 < n) {c : ConnectorFront} (ec : c ≡ connector_read (connector m q.source.0)) where
+      near : (boundary_output m i).source < connector_count m
+      near = rw (en, same_source) at a
 
-      pub output-other : (k ≡ c.value_type → ⊥) → None ≡ output_root (model_of s) (boundary_output (model_of s) i)
+      same-dir : c.dir ≡ (connector m (boundary_output m i).source).dir
+      unfolding connector_read
+      same-dir = ap (λ (c : ConnectorFront). c.dir) ec ∙ ap (λ (x : ℕ). (connector m x).dir) same_source
+
+      same-type : c.value_type ≡ (connector m (boundary_output m i).source).value_type
+      unfolding connector_read
+      same-type = ap (λ (c : ConnectorFront). c.value_type) ec ∙ ap (λ (x : ℕ). (connector m x).value_type) same_source
+
+      pub output-in : c.dir ≡ dir_in → None ≡ output_root m (boundary_output m i)
       unfolding output_root sound
-      output-other e =
-          rw (lt-ltb _ _ near, ne_eqb _ _ (λ x. d (same-dir ∙ x)), ne_eqb _ _ (λ x. e (ek ∙ ap (λ a. a.kind) ea ∙ x ∙ sym same-type)))
+      output-in e = rw (lt-ltb _ _ near, eq-eqb _ _ (sym same-dir ∙ e))
 
-module _ {s : List ℕ} {l : Layout} (h : Laid s l) {k : ℕ} where
-  pub root-connection : {r : Option ConnectorId} → k < l.connections.count → r ≡ connection_root (model_of s) (connection (model_of s) k) → r ≡ root_of (model_of s) k
+      module _ {k : ℕ} (d : c.dir ≡ dir_in → ⊥) (ek : k ≡ (boundary_output m i).attrs.kind) where
+        pub output-sound : k ≡ c.value_type → Some q.source ≡ output_root m (boundary_output m i)
+        unfolding output_root sound output_read
+        output-sound e =
+            rw (lt-ltb _ _ near, ne_eqb _ _ (λ x. d (same-dir ∙ x)), eq-eqb _ _ (sym ek ∙ e ∙ same-type))
+            (ap (λ (o : BoundaryOutputFront). Some o.source) eq)
+
+        pub output-other : (k ≡ c.value_type → ⊥) → None ≡ output_root m (boundary_output m i)
+        unfolding output_root sound
+        output-other e =
+            rw (lt-ltb _ _ near, ne_eqb _ _ (λ x. d (same-dir ∙ x)), ne_eqb _ _ (λ x. e (ek ∙ x ∙ sym same-type)))
+
+-- link k is a connection, or else a boundary output
+module _ (m : Model) {n : ℕ} (en : n ≡ connection_count m) (k : ℕ) where
+  pub root-connection : {r : Option ConnectorId} → k < n → r ≡ connection_root m (connection m k) → r ≡ root_of m k
   unfolding root_of
   root-connection a e =
-      let a' : k < connection_count (model_of s) = rw (connections-counted h) at a in
+      let a' : k < connection_count m = rw en at a in
       e ∙ rw (lt-ltb _ _ a')
 
-  pub root-output : {r : Option ConnectorId} → l.connections.count ≤ k → r ≡ output_root (model_of s) (boundary_output (model_of s) (k - l.connections.count)) → r ≡ root_of (model_of s) k
+  pub root-output : {r : Option ConnectorId} → n ≤ k → r ≡ output_root m (boundary_output m (k - n)) → r ≡ root_of m k
   unfolding root_of
   root-output a e =
-      let a' : connection_count (model_of s) ≤ k = rw (connections-counted h) at a in
-      e ∙ rw (le-ltb _ _ a', connections-counted h)
+      let a' : connection_count m ≤ k = rw en at a in
+      e ∙ rw (le-ltb _ _ a', en)
 
-  pub target-connection : {q : Connection} → k < l.connections.count → q ≡ connection_read (connection (model_of s) k) → q.to.0 ≡ target_of (model_of s) k
+  pub target-connection : {q : Connection} → k < n → q ≡ connection_read (connection m k) → q.to.0 ≡ target_of m k
   unfolding target_of connection_read
   target-connection a e =
-      let a' : k < connection_count (model_of s) = rw (connections-counted h) at a in
+      let a' : k < connection_count m = rw en at a in
       rw (lt-ltb _ _ a') (ap (λ (c : Connection). c.to.0) e)
 
-  pub target-output : l.connections.count ≤ k → l.connectors.count + (k - l.connections.count) ≡ target_of (model_of s) k
+  pub target-output : {c : ℕ} → n ≤ k → c ≡ connector_count m → c + (k - n) ≡ target_of m k
   unfolding target_of
-  target-output a =
-      let a' : connection_count (model_of s) ≤ k = rw (connections-counted h) at a in
-      rw (le-ltb _ _ a', connections-counted h, connectors-counted h)
+  target-output a ec =
+      let a' : connection_count m ≤ k = rw en at a in
+      rw (le-ltb _ _ a', en, ec)
 
 -- ---- the links of a root are its cluster
 
@@ -353,33 +338,6 @@ module _ {m : Model} {k : ℕ} {head next : List ℕ} (v : Linked m (k + 1) head
 pub next-there : (m : Model) (k : ℕ) {head next : List ℕ} → Linked m (k + 1) head next → k < link_count m → k < length next
 next-there m k v a = omega (arith, v.room')
 
--- ---- the loop that builds them
-
-pub record Building (m : Model) (head₀ next₀ : List ℕ) (k : ℕ) (head next : List ℕ) : Type 0 where
-  pub within : k ≤ link_count m
-  pub linked : Linked m k head next
-  pub long : length head ≡ length head₀
-  pub long' : length next ≡ length next₀
-
-pub building-start : {s : List ℕ} {l : Layout} {head next : List ℕ} {k : ℕ} → Laid s l → Empty (model_of s) head → connector_count (model_of s) ≤ length head → link_count (model_of s) ≤ length next
-    → k ≡ l.connections.count + l.outputs.count → Building (model_of s) head next k head next
-building-start {s} {head = head} {next = next} {k = k} h z a b e =
-    let q : k ≡ link_count (model_of s) = e ∙ links-count h in
-    rw q (record { within = omega arith; linked = linked-start (model_of s) head next z a b; long = refl; long' = refl })
-
-module _ {m : Model} {head₀ next₀ : List ℕ} {k : ℕ} {head next : List ℕ} (v : Building m head₀ next₀ k head next) where
-  pub building-next : 0 < k → Linked m (k - 1 + 1) head next
-  building-next h = let e : k - 1 + 1 ≡ k = omega arith in rw e v.linked
-
-  pub building-turn : {head' next' : List ℕ} → 0 < k → Linked m (k - 1) head' next' → length head' ≡ length head → length next' ≡ length next → Building m head₀ next₀ (k - 1) head' next'
-  building-turn h l a b = record { within = omega (arith, v.within); linked = l; long = a ∙ v.long; long' = b ∙ v.long' }
-
-  pub building-inside : 0 < k → k - 1 < link_count m
-  building-inside h = omega (arith, v.within)
-
-  pub building-done : k ≤ 0 → Linked m 0 head next
-  building-done h = let e : 0 ≡ k = omega arith in rw e v.linked
-
 -- ---- gathering a cluster
 
 inside_one : (s x : ℕ) → x < s → Inside s (x ∷ [])
@@ -399,39 +357,34 @@ inside-more s xs x v h = record { each = λ i l. go i (dec_lt i (length xs)) l }
         rw (e, get_or-append_seam xs x [] 0) h
 
 -- the members up to link k, of `links`
-pub record Gathers (m : Model) (links r : ℕ) (members₀ members : List ℕ) (c k : ℕ) : Type 0 where
-  pub count : links ≡ link_count m
+pub record Gathers (m : Model) (links r : ℕ) (members : List ℕ) (c k : ℕ) : Type 0 where
   pub hits : k < link_count m → root_of m k ≡ root_at r
   pub found : k < link_count m → take c members ≡ r ∷ each k (member m r)
   pub missing : link_count m ≤ k → take c members ≡ r ∷ each (link_count m) (member m r)
   pub inside : Inside (slot_count m) (take c members)
   pub fits : k < link_count m → c ≤ k + 1
   pub within : c ≤ link_count m + 1
-  pub long : length members ≡ length members₀
   pub room : link_count m < length members
+  pub count : links ≡ link_count m
 
-pub gathers-start : {s : List ℕ} {l : Layout} {links r : ℕ} (members₀ : List ℕ) {head next : List ℕ} {k : ℕ} → Laid s l → Linked (model_of s) 0 head next → r < connector_count (model_of s)
-    → link_count (model_of s) < length members₀ → links ≡ l.connections.count + l.outputs.count → k ≡ get_or head r 0 → Gathers (model_of s) links (get_or (set members₀ 0 r) 0 0) (set members₀ 0 r) (set members₀ 0 r) 1 k
+pub gathers-start : (m : Model) {links r : ℕ} (members : List ℕ) {head next : List ℕ} → Linked m 0 head next → r < connector_count m
+    → link_count m < length members → links ≡ link_count m → Gathers m links r (set members 0 r) 1 (get_or head r 0)
 unfolding each
-gathers-start {s} {l} {links} {r} members₀ {head} {next} {k} lay v h room e ek = rw (get_or-set_same members₀ 0 r 0 (omega arith)) (go (rw (← ek) at (v.heads r h)) (take-suc-set members₀ 0 r (omega arith)))
+gathers-start m {links} {r} members {head} {next} v h room e = go (v.heads r h) (take-suc-set members 0 r (omega arith))
   where
-    m : Model
-    m = model_of s
-
-    go : Leads m r 0 k → take 1 (set members₀ 0 r) ≡ r ∷ [] → Gathers m links r (set members₀ 0 r) (set members₀ 0 r) 1 k
-    go d q = record {
-      count = e ∙ links-count lay;
+    go : {k : ℕ} → Leads m r 0 k → take 1 (set members 0 r) ≡ r ∷ [] → Gathers m links r (set members 0 r) 1 k
+    go {k} d q = record {
       hits = d.hits;
       found = λ y. q ∙ ap (λ (x : List ℕ). r ∷ x) (sym (d.found y));
       missing = λ y. q ∙ ap (λ (x : List ℕ). r ∷ x) (sym (d.missing y));
       inside = rw q (inside_one (slot_count m) r (omega arith));
       fits = λ y. omega arith;
       within = omega arith;
-      long = refl;
-      room = rw (length-set members₀ 0 r) room;
+      room = rw (length-set members 0 r) room;
+      count = e;
     }
 
-module _ {m : Model} {links r : ℕ} {members₀ members : List ℕ} {c k : ℕ} (g : Gathers m links r members₀ members c k) where
+module _ {m : Model} {links r : ℕ} {members : List ℕ} {c k : ℕ} (g : Gathers m links r members c k) where
   pub gathers-link : k < links → k < link_count m
   gathers-link h = rw (← g.count) h
 
@@ -441,52 +394,59 @@ module _ {m : Model} {links r : ℕ} {members₀ members : List ℕ} {c k : ℕ}
   pub gathers-next : {head next : List ℕ} → Linked m 0 head next → k < links → k < length next
   gathers-next v h = let h' : k < link_count m = gathers-link h in omega (arith, v.room')
 
-  pub gathers-turn : {head next members' : List ℕ} {k' : ℕ} → members' ≡ set members c (target_of m k) → Linked m 0 head next → k < links → k' ≡ get_or next k 0
-      → Gathers m links r members₀ members' (c + 1) k'
-  gathers-turn {next = next} {members' = members'} {k' = k'} em v h ek =
-      go (rw (← ek) at (v.nexts k r (omega arith) h' (g.hits h')))
+  pub gathers-turn : {head next : List ℕ} {t : ℕ} → t ≡ target_of m k → Linked m 0 head next → k < links
+      → Gathers m links r (set members c t) (c + 1) (get_or next k 0)
+  gathers-turn {next = next} {t = t} et v h =
+      go (v.nexts k r (omega arith) h' (g.hits h'))
     where
       h' : k < link_count m
       h' = gathers-link h
 
-      more : take (c + 1) members' ≡ take c members ++ (target_of m k ∷ [])
-      more = rw (em, add-one c) (take-suc-set members c (target_of m k) (gathers-room h))
+      more : take (c + 1) (set members c t) ≡ take c members ++ (target_of m k ∷ [])
+      more = rw (et, add-one c) (take-suc-set members c (target_of m k) (gathers-room h))
 
-      joined : take (c + 1) members' ≡ r ∷ each (k + 1) (member m r)
+      joined : take (c + 1) (set members c t) ≡ r ∷ each (k + 1) (member m r)
       joined = more ∙ rw (g.found h', each_next k (member m r), member-hit m r k (g.hits h'))
 
-      go : Leads m r (k + 1) k' → Gathers m links r members₀ members' (c + 1) k'
-      go d = record {
-        count = g.count;
+      go : {k' : ℕ} → Leads m r (k + 1) k' → Gathers m links r (set members c t) (c + 1) k'
+      go {k'} d = record {
         hits = d.hits;
         found = λ y. joined ∙ ap (λ (x : List ℕ). r ∷ x) (sym (d.found y));
         missing = λ y. joined ∙ ap (λ (x : List ℕ). r ∷ x) (sym (d.missing y));
         inside = rw more (inside-more (slot_count m) (take c members) (target_of m k) g.inside (target-inside m k r h' (g.hits h')));
         fits = λ y. omega (arith, d.above, g.fits h');
         within = omega (arith, g.fits h', h');
-        long = rw (em, length-set members c (target_of m k)) g.long;
-        room = rw (em, length-set members c (target_of m k)) g.room;
+        room = rw (length-set members c t) g.room;
+        count = g.count;
       }
 
-  pub gathers-less : {head next : List ℕ} {k' : ℕ} → Linked m 0 head next → k' ≡ get_or next k 0 → k < links → links - k' < links - k
-  gathers-less v ek h =
+  pub gathers-less : {head next : List ℕ} → Linked m 0 head next → k < links → links - get_or next k 0 < links - k
+  gathers-less v h =
       let h' : k < link_count m = gathers-link h in
       omega (arith, (v.nexts k r (omega arith) h' (g.hits h')).above)
 
-  pub gathers-length : length members ≡ length members₀
-  gathers-length = g.long
+  -- all links are passed
+  pub gathers-done : links ≤ k → Gathered m r (take c members)
+  gathers-done h = record {
+    cluster = g.missing (rw (← g.count) h) ∙ ap (λ (x : List ℕ). r ∷ x) (driven-same m r);
+    inside = g.inside;
+    few = rw (length-take-le c members (omega (arith, g.within, g.room))) g.within;
+  }
 
--- all links are passed; the root is the first member
-pub gathers-done : {m : Model} {links first r : ℕ} {members₀ members : List ℕ} {c k : ℕ} → Gathers m links first members₀ members c k → first ≡ r → links ≤ k → Gathered m r members c
-gathers-done {m} {links} {first} {r} {members₀} {members} {c} {k} v e h = record {
-  cluster = g.missing (rw (← g.count) h) ∙ ap (λ (x : List ℕ). r ∷ x) (driven-same m r);
-  inside = g.inside;
-  within = omega (arith, g.within, g.room);
-  few = g.within;
-}
-  where
-    g : Gathers m links r members₀ members c k
-    g = rw e at v
+-- ---- roots by their heads
 
-pub set_same : (members : List ℕ) (c : ℕ) {t u : ℕ} → t ≡ u → set members c t ≡ set members c u
-set_same members c e = ap (set members c) e
+pub linked-headed : {m : Model} {head next : List ℕ} → Linked m 0 head next → Headed m head
+linked-headed v = record { each = v.heads; room = v.room }
+
+module _ (m : Model) {n : ℕ} (en : n ≡ link_count m) {head : List ℕ} (y : Headed m head) (r : ℕ) (h : r < connector_count m) where
+  pub root-headed : ltb (get_or head r 0) n ≡ is_root m r
+  root-headed = arm (dec_lt (get_or head r 0) n)
+    where
+      k : ℕ
+      k = get_or head r 0
+
+      arm : Dec (k < n) → ltb k n ≡ is_root m r
+      arm (yes l) =
+          let l' : k < link_count m = rw (← en) l in
+          lt-ltb k n l ∙ sym (root-of-hit m r k l' ((y.each r h).hits l'))
+      arm (no l) = le-ltb k n (omega arith) ∙ sym (root-of-none m r k (y.each r h) (omega (arith, en)))

@@ -5,7 +5,8 @@ use Rattle.std.specs.Prelude.{ℕ, ◌+◌, ◌-◌, ◌≤◌, ◌<◌, ◌≡�
 use Rattle.base.specs.Lists.{each, only}
 use Rattle.oce_model.specs.Model.{Connection, BoundaryOutput, Model, connection, boundary_output, connector_count, connection_count, boundary_output_count}
 use Rattle.unify.specs.Clusters.{drives, sound, driven}
-use Rattle.unify_slots.specs.Table.{slot_count, Inside}
+use Rattle.unify_slots.specs.Slots.{slot_count, Inside}
+use Rattle.unify_links.specs.declared.Links.{Links}
 use Rattle.oce_model.specs.declared.ConnectorId.{ConnectorId}
 
 abbrev pub link_count : Model → ℕ
@@ -58,9 +59,17 @@ pub record Linked (m : Model) (i : ℕ) (head next : List ℕ) : Type 0 where
   pub room : connector_count m ≤ length head
   pub room' : link_count m ≤ length next
 
--- the first c members are the cluster of r
-pub record Gathered (m : Model) (r : ℕ) (members : List ℕ) (c : ℕ) : Type 0 where
-  pub cluster : take c members ≡ r ∷ driven m r
-  pub inside : Inside (slot_count m) (take c members)
-  pub within : c ≤ length members
-  pub few : c ≤ link_count m + 1
+-- all links
+abbrev pub AllLinked : Model → Links → Type 0
+AllLinked m links = Linked m 0 links.head.now links.next.now
+
+-- `head` has the first link of each root
+pub record Headed (m : Model) (head : List ℕ) : Type 0 where
+  pub each : (r : ℕ) → r < connector_count m → Leads m r 0 (get_or head r 0)
+  pub room : connector_count m ≤ length head
+
+-- the members are the cluster of r
+pub record Gathered (m : Model) (r : ℕ) (members : List ℕ) : Type 0 where
+  pub cluster : members ≡ r ∷ driven m r
+  pub inside : Inside (slot_count m) members
+  pub few : length members ≤ link_count m + 1

@@ -1,164 +1,156 @@
 // The clusters of rule 6 (FORMAT 15), from lists of links: the connections, and behind them the boundary outputs.
 #![tactic(auto)]
 
-ghost use Rattle.std.specs.Prelude.{◌≡◌, ◌+◌, ◌-◌, ◌≤◌, ◌<◌, length, get_or, set};
-ghost use Rattle.oce_model.specs.Model.{model_of, connection, boundary_output, connector_count};
-ghost use Rattle.image_accept.specs.Layout.{Laid};
+ghost use Rattle.std.specs.Prelude.{◌≡◌, ◌+◌, ◌≤◌, ◌<◌, length};
+ghost use Rattle.oce_model.specs.Format.{most_connections, most_boundary_outputs};
+ghost use Rattle.oce_model.specs.Model.{model_of, connection, boundary_output, connector_count, connection_count, boundary_output_count};
 ghost use Rattle.structural_degrees.specs.Columns.{Degrees};
-ghost use Rattle.unify_links.specs.Links.{link_count, connection_root, output_root, root_of, target_of, Empty, Linked, Gathered};
+ghost use Rattle.unify.specs.Clusters.{is_root};
+ghost use Rattle.unify_links.specs.Links.{link_count, connection_root, output_root, root_of, target_of, Empty, Headed, Linked, AllLinked, Gathered};
 
-use image_accept::Layout;
-use image_attributes::attrs_kind;
-use image_records::{boundary_output, boundary_output_attrs, connection, connector};
-use oce_model::{ConnectorId, DIR_IN};
+use image_records::Image;
+use oce_model::{ConnectorId, Dir};
+
+// The links of each root in lists, in fixed memory: `head` has the first link of each root, `next` the one
+// behind each link. A number that is no link's ends a list.
+#[derive(Clone, Copy)]
+pub struct Links<'a> {
+    pub head: &'a [usize],
+    pub next: &'a [usize],
+}
+
+// How many links there are.
+pub fn link_count(image: &Image) -> usize
+    ensures counted { result ≡ link_count (model_of image.now) }
+    ensures few { result ≤ most_connections + most_boundary_outputs }
+{
+    image.connection_count() + image.boundary_output_count()
+}
 
 // ---- roots and targets
 
 // The root of connection k.
-fn connection_root(image: &[u8], layout: Layout, degrees: &[u32], k: usize) -> Option<ConnectorId>
-    requires { Laid image.now layout × Degrees (model_of image.now) degrees.now × (k < layout.connections.count) }
+fn connection_root(image: &Image, degrees: &[u32], k: usize) -> Option<ConnectorId>
+    requires { Degrees (model_of image.now) degrees.now × (k < connection_count (model_of image.now)) }
     ensures { result ≡ connection_root (model_of image.now) (connection (model_of image.now) k) }
 {
-    let n = layout.connectors.count;
-    let c = connection(image, layout, k);
-    let from = c.from;
+    let n = image.connector_count();
+    let c = image.connection(k);
     let to = c.to.0 as usize;
-    if (from.0 as usize) < n {
-        if to < n {
-            if degrees[to] == 1 {
-                return Some(from);
-            }
-        }
+    if (c.from.0 as usize) < n && to < n && degrees[to] == 1 {
+        Some(c.from)
+    } else {
+        None
     }
-    None
 }
 
 // The root of boundary output i.
-fn output_root(image: &[u8], layout: Layout, i: usize) -> Option<ConnectorId>
-    requires { Laid image.now layout × (i < layout.outputs.count) }
+fn output_root(image: &Image, i: usize) -> Option<ConnectorId>
+    requires { i < boundary_output_count (model_of image.now) }
     ensures { result ≡ output_root (model_of image.now) (boundary_output (model_of image.now) i) }
 {
-    let o = boundary_output(image, layout, i);
-    let source = o.source;
-    if layout.connectors.count <= source.0 as usize {
+    let source = image.boundary_output(i).source;
+    if image.connector_count() <= source.0 as usize {
         return None;
     }
-    let c = connector(image, layout, source);
-    if c.dir == DIR_IN {
-        return None;
+    let c = image.connector(source);
+    if c.dir != Dir::In as usize
+        && usize::from(image.boundary_output_attrs(i).kind) == c.value_type
+    {
+        Some(source)
+    } else {
+        None
     }
-    let at = boundary_output_attrs(image, layout, i);
-    if attrs_kind(image, at) == c.value_type {
-        return Some(source);
-    }
-    None
 }
 
 // The root of link k.
-fn root_of(image: &[u8], layout: Layout, degrees: &[u32], k: usize) -> Option<ConnectorId>
-    requires { Laid image.now layout × Degrees (model_of image.now) degrees.now × (k < link_count (model_of image.now)) }
+fn root_of(image: &Image, degrees: &[u32], k: usize) -> Option<ConnectorId>
+    requires { Degrees (model_of image.now) degrees.now × (k < link_count (model_of image.now)) }
     ensures { result ≡ root_of (model_of image.now) k }
 {
-    let connections = layout.connections.count;
+    let connections = image.connection_count();
     if k < connections {
-        return connection_root(image, layout, degrees, k);
+        connection_root(image, degrees, k)
+    } else {
+        output_root(image, k - connections)
     }
-    output_root(image, layout, k - connections)
 }
 
 // The slot that link k leads to.
-fn target_of(image: &[u8], layout: Layout, k: usize) -> usize
-    requires { Laid image.now layout × (k < link_count (model_of image.now)) }
+fn target_of(image: &Image, k: usize) -> usize
+    requires { (k < link_count (model_of image.now)) × (link_count (model_of image.now) ≤ most_connections + most_boundary_outputs) }
     ensures { result ≡ target_of (model_of image.now) k }
 {
-    let connections = layout.connections.count;
+    let connections = image.connection_count();
     if k < connections {
-        let c = connection(image, layout, k);
-        return c.to.0 as usize;
+        image.connection(k).to.0 as usize
+    } else {
+        image.connector_count() + (k - connections)
     }
-    layout.connectors.count + (k - connections)
 }
 
 // ---- the lists
 
-// Link k comes to the front of the root's list.
-fn push(head: &mut [usize], next: &mut [usize], root: ConnectorId, k: usize)
-    requires { (root.0 < length head.old) × (k < length next.old) }
-    ensures { (head.new ≡ set head.old root.0 k) × (next.new ≡ set next.old k (get_or head.old root.0 0)) }
-{
-    next[k] = head[root.0 as usize];
-    head[root.0 as usize] = k;
-}
-
-// Link k joins the lists, which have all links behind it.
-fn link(
-    image: &[u8],
-    layout: Layout,
-    degrees: &[u32],
-    k: usize,
-    head: &mut [usize],
-    next: &mut [usize],
-)
-    requires { Laid image.now layout × Degrees (model_of image.now) degrees.now × (k < link_count (model_of image.now))
+// Link k comes to the front of its root's list, if it has a root. The lists have all links behind it.
+fn link(image: &Image, degrees: &[u32], k: usize, head: &mut [usize], next: &mut [usize])
+    requires { Degrees (model_of image.now) degrees.now × (k < link_count (model_of image.now))
         × Linked (model_of image.now) (k + 1) head.old next.old }
     ensures { Linked (model_of image.now) k head.new next.new }
 {
-    match root_of(image, layout, degrees, k) {
-        None => {}
-        Some(root) => push(head, next, root, k),
+    if let Some(root) = root_of(image, degrees, k) {
+        next[k] = head[root.0 as usize];
+        head[root.0 as usize] = k;
     }
 }
 
 // The lists of all links, from the last to the first. `head` holds no link's number at first.
-pub fn link_all(
-    image: &[u8],
-    layout: Layout,
+pub fn link_all<'a>(
+    image: &Image,
     degrees: &[u32],
-    head: &mut [usize],
-    next: &mut [usize],
-)
-    requires { Laid image.now layout × Degrees (model_of image.now) degrees.now × Empty (model_of image.now) head.old
+    head: &'a mut [usize],
+    next: &'a mut [usize],
+) -> Links<'a>
+    requires { Degrees (model_of image.now) degrees.now × Empty (model_of image.now) head.old
         × (connector_count (model_of image.now) ≤ length head.old) × (link_count (model_of image.now) ≤ length next.old) }
-    ensures { Linked (model_of image.now) 0 head.new next.new }
+    ensures { AllLinked (model_of image.now) result }
 {
-    let mut k = layout.connections.count + layout.outputs.count;
-    while 0 < k {
-        k -= 1;
-        link(image, layout, degrees, k, head, next);
+    for k in (0..link_count(image)).rev() {
+        link(image, degrees, k, head, next);
     }
+    Links { head, next }
 }
 
-// ---- members
+// ---- clusters
 
-// Member c is the slot that link k leads to.
-fn add_member(image: &[u8], layout: Layout, k: usize, members: &mut [usize], c: usize)
-    requires { Laid image.now layout × (k < link_count (model_of image.now)) × (c < length members.old) }
-    ensures { members.new ≡ set members.old c (target_of (model_of image.now) k) }
-{
-    members[c] = target_of(image, layout, k);
-}
-
-// The cluster of a root: the root, then the slots that its links lead to. How many they are.
-pub fn gather(
-    image: &[u8],
-    layout: Layout,
-    head: &[usize],
-    next: &[usize],
-    root: ConnectorId,
-    members: &mut [usize],
-) -> usize
-    requires { Laid image.now layout × Linked (model_of image.now) 0 head.now next.now
-        × (root.0 < connector_count (model_of image.now)) × (link_count (model_of image.now) < length members.old) }
-    ensures { Gathered (model_of image.now) root.0 members.new result }
-{
-    let links = layout.connections.count + layout.outputs.count;
-    members[0] = root.0 as usize;
-    let mut c = 1;
-    let mut k = head[root.0 as usize];
-    while k < links {
-        add_member(image, layout, k, members, c);
-        c += 1;
-        k = next[k];
+impl Links<'_> {
+    // A connector is a root: its list has a link.
+    pub fn is_root(self, image: &Image, root: ConnectorId) -> bool
+        requires { Headed (model_of image.now) self.head.now × (root.0 < connector_count (model_of image.now)) }
+        ensures { result ≡ is_root (model_of image.now) root.0 }
+    {
+        self.head[root.0 as usize] < link_count(image)
     }
-    c
+
+    // The cluster of a root: the root, then the slots that its links lead to, in the order of its list.
+    pub fn gather<'m>(
+        self,
+        image: &Image,
+        root: ConnectorId,
+        members: &'m mut [usize],
+    ) -> &'m [usize]
+        requires { AllLinked (model_of image.now) self × (root.0 < connector_count (model_of image.now))
+            × (link_count (model_of image.now) < length members.old) }
+        ensures { Gathered (model_of image.now) root.0 result.now }
+    {
+        let links = link_count(image);
+        members[0] = root.0 as usize;
+        let mut c = 1;
+        let mut k = self.head[root.0 as usize];
+        while k < links {
+            members[c] = target_of(image, k);
+            c += 1;
+            k = self.next[k];
+        }
+        &members[..c]
+    }
 }

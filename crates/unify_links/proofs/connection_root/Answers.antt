@@ -1,21 +1,19 @@
 -- `unify_links::connection_root` meets its contract.
-use borrow.Author.Rules.{rules}
-use Rattle.unify_links.proofs.Laws.{degree-there, connection-drives, connection-from, connection-to, connection-degree}
+use Rattle.std.proofs.Common.{rules}
+use Rattle.oce_model.specs.Model.{model_of}
+use Rattle.unify_links.proofs.Laws.{connection-drives, connection-from, connection-to, connection-degree}
 use Rattle.unify_links.proofs.connection_root.Goals as goal
-
-ruleset mine = (connection-drives, connection-from, connection-to, connection-degree, rules)
-
-pub bounds-degrees-to : goal.bounds-degrees-to
-bounds-degrees-to c = search degree-there
+use Rattle.unify_links.proofs.connection_root.Goals.{else-c-n-via-then-c-n+then-to-n+else-degrees-to-eq1, else-c-n-via-then-c-n+else-to-n, else-c-n-via-else-c-n}
 
 pub returns-then-degrees-to-eq1 : goal.returns-then-degrees-to-eq1
-returns-then-degrees-to-eq1 c = search mine
+returns-then-degrees-to-eq1 c =
+    connection-drives (model_of c.args.image.now) c.connector_count-n.ensures.0 c.requires.0 c.args.k c.connection-c.ensures c.if-c-n.true c.if-to-n.true c.if-degrees-to-eq1.true
 
-pub returns-else-degrees-to-eq1 : goal.returns-else-degrees-to-eq1
-returns-else-degrees-to-eq1 c = search mine
-
-pub returns-else-to-n : goal.returns-else-to-n
-returns-else-to-n c = search mine
-
-pub returns-else-from-n : goal.returns-else-from-n
-returns-else-from-n c = search mine
+pub returns-else-c-n : goal.returns-else-c-n
+returns-else-c-n c =
+    let m = model_of c.args.image.now in
+    elim c.else-c-n.branch [
+      else-c-n-via-then-c-n+then-to-n+else-degrees-to-eq1 w ↦ connection-degree m c.connector_count-n.ensures.0 c.requires.0 c.args.k c.connection-c.ensures w.if-c-n.true w.if-to-n.true w.if-degrees-to-eq1.false
+    | else-c-n-via-then-c-n+else-to-n w ↦ connection-to m c.connector_count-n.ensures.0 c.requires.0 c.args.k c.connection-c.ensures w.if-c-n.true w.if-to-n.false
+    | else-c-n-via-else-c-n w ↦ connection-from m c.connector_count-n.ensures.0 c.requires.0 c.args.k c.connection-c.ensures w.if-c-n.false
+    ]

@@ -1,15 +1,16 @@
 -- `unify_links::link` meets its contract.
-use borrow.Author.Rules.{rules}
-use Rattle.unify_links.proofs.Laws.{head-there, next-there, link-skip, link-push}
+use Rattle.std.proofs.Common.{refl}
+use Rattle.unify_links.proofs.Laws.{head-there, link-skip, link-push}
 use Rattle.unify_links.proofs.link.Goals as goal
 
-ruleset mine = (link-skip, link-push, rules)
+pub bounds-head-root : goal.bounds-head-root
+bounds-head-root c = head-there c.requires.2 c.root_of.ensures c.in-Some.is c.requires.1
 
-pub push-requires : goal.push-requires
-push-requires c = (search head-there, search next-there)
-
-pub returns-in-None : goal.returns-in-None
-returns-in-None c = search mine
+pub bounds-head-root-in-Some : goal.bounds-head-root-in-Some
+bounds-head-root-in-Some c = head-there c.requires.2 c.root_of.ensures c.in-Some.is c.requires.1
 
 pub returns-in-Some : goal.returns-in-Some
-returns-in-Some c = search mine
+returns-in-Some c = link-push c.requires.2 c.root_of.ensures c.in-Some.is c.requires.1 refl refl
+
+pub returns-in_default : goal.returns-in_default
+returns-in_default c = link-skip c.requires.2 c.root_of.ensures c.in_default.is

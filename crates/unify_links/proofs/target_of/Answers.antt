@@ -1,15 +1,10 @@
 -- `unify_links::target_of` meets its contract.
-use borrow.Author.Rules.{rules}
-use Rattle.unify_links.proofs.Laws.{target-connection, target-output, target_fits}
+use Rattle.oce_model.specs.Model.{model_of}
+use Rattle.unify_links.proofs.Laws.{target-connection, target-output}
 use Rattle.unify_links.proofs.target_of.Goals as goal
 
-ruleset mine = (target-connection, target-output, target_fits, rules)
-
 pub returns-then-k-connections : goal.returns-then-k-connections
-returns-then-k-connections c = search mine
+returns-then-k-connections c = target-connection (model_of c.args.image.now) c.connection_count-connections.ensures.0 c.args.k c.if-k-connections.true c.connection.ensures
 
-pub overflow_add-result : goal.overflow_add-result
-overflow_add-result c = search mine
-
-pub returns : goal.returns
-returns c = search mine
+pub returns-else-k-connections : goal.returns-else-k-connections
+returns-else-k-connections c = target-output (model_of c.args.image.now) c.connection_count-connections.ensures.0 c.args.k c.if-k-connections.false c.connector_count.ensures.0
