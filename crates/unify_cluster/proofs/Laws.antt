@@ -1,5 +1,5 @@
 -- Laws of one cluster.
-use Prim.Native.Nat.{ℕ, zero, suc, ◌+◌, ◌≤◌, ◌<◌}
+use Prim.Native.Nat.{ℕ, ◌+◌, ◌≤◌, ◌<◌}
 use native.Mathlib.Numerals.{add-one}
 use native.Mathlib.Omega.{arith}
 use mathlib.Core.Path.{◌≡◌, refl, sym, ap, ◌∙◌}
@@ -10,27 +10,27 @@ use lib.ListN.{length, get_or, drop, drop_of_length-le}
 use lib.Seq.{drop-cons}
 use Rattle.oce_model.specs.Model.{Model, model_of, connector}
 use Rattle.oce_model.specs.declared.ConnectorFront.{ConnectorFront}
-use Rattle.image_accept.specs.declared.Layout.{Layout}
 use Rattle.image_records.specs.Records.{connector_read}
 use Rattle.oce_diag.specs.Diagnostics.{connector_subject, subject_of, error, warning}
-use Rattle.oce_diag.specs.declared.Counted.{Counted}
+use Rattle.oce_diag.specs.Reporting.{Room, Puts}
 use Rattle.oce_diag.specs.declared.DiagCode.{DiagCode}
 use Rattle.oce_diag.specs.declared.DiagCode.TheVariants.{UnitQuantityMismatch, BoundMismatch, DisplayUnitDivergence}
 use Rattle.oce_diag.specs.declared.Diagnostic.{Diagnostic}
 use Rattle.oce_diag.specs.declared.Subject.{Subject}
-use Rattle.oce_diag.specs.Putting.{Countable, Adds, Put}
-use Rattle.oce_diag.proofs.Putting.{put-none, put_then, put-length}
+use Rattle.oce_diag.specs.declared.report.Report.{Report}
+use Rattle.oce_diag.proofs.Reporting.{puts-none, puts-within, puts-more}
 use Rattle.unify.specs.Details.{detail_number, is_text, unified_details}
 use Rattle.unify.specs.Unify.{declarations, fill, conflict, conflict_code, fill_faults, display_faults, fill_details, details_faults, cluster_faults}
 use Rattle.unify.specs.declared.Detail.{Detail}
-use Rattle.unify.specs.declared.Detail.TheVariants.{IntegerMax, DisplayUnit}
+use Rattle.unify.specs.declared.Detail.TheVariants.{Unit, DisplayUnit}
+use Rattle.unify.proofs.Local.{fill-length}
 use Rattle.unify.proofs.Undeclared.{fill-undeclared, faults-undeclared, display-undeclared, fill-keeps, details-undeclared, cluster-undeclared}
 use Rattle.unify.specs.Slots.{Slots}
-use Rattle.unify_slots.specs.Table.{view}
 use Rattle.unify_seen.specs.Seen.{Sees, shows}
 use Rattle.unify_seen.proofs.Laws.{undeclared, nothing-shows}
-use Rattle.unify_settle.specs.Settle.{Ready, Settled}
-use Rattle.unify_cluster.specs.Clusters.{unified_count, Unseen, Detailed, AllDetailed, Displayed, Clustered}
+use Rattle.unify_slots.specs.Slots.{Inside}
+use Rattle.unify_cluster.specs.Clusters.{unified_count, most_cluster_faults, Stands}
+use Rattle.unify_cluster.specs.declared.ClusterMembers.{ClusterMembers}
 
 -- ---- diagnostics
 
@@ -47,185 +47,136 @@ module _ (d : Detail) {t : Bool} (et : t ≡ is_text d) where
   unfolding conflict_code
   code-end e = rw (← et, e)
 
-module _ {b b' : List ℕ} {c c' : Counted} {e : Diagnostic} (p : Put b c (e ∷ []) b' c') (s : List ℕ) (r : ℕ) where
-  pub told-conflict : (d : Detail) {code : DiagCode} {n : ℕ} {t : Subject} → e ≡ error code 6 n t r → n ≡ detail_number d → code ≡ conflict_code d → t ≡ subject_of (connector (model_of s) r)
-      → Put b c (error (conflict_code d) 6 (detail_number d) (subject_of (connector (model_of s) r)) r ∷ []) b' c'
-  told-conflict d ee en ec et = rw (← ec, ← en, ← et, ← ee) p
-
-  pub told-divergence : {n : ℕ} {t : Subject} → e ≡ warning DisplayUnitDivergence 6 n t r → n ≡ detail_number DisplayUnit → t ≡ subject_of (connector (model_of s) r)
-      → Put b c (warning DisplayUnitDivergence 6 (detail_number DisplayUnit) (subject_of (connector (model_of s) r)) r ∷ []) b' c'
-  told-divergence ee en et = rw (← en, ← et, ← ee) p
-
 -- ---- one detail
 
-module _ {m : Model} {r : ℕ} {d : Detail} {n : ℕ} {js table table' : List ℕ} {b : List ℕ} {c : Counted} {t : Bool} (v : Settled m.texts d n js table table' t) where
-  pub detail-fault : {b' : List ℕ} {c' : Counted} → Put b c (error (conflict_code d) 6 (detail_number d) (subject_of (connector m r)) r ∷ []) b' c' → t ≡ true
-      → Detailed m r d n js table table' b c b' c'
-  unfolding fill_faults
-  detail-fault p e = record { slots = v.slots; put = rw (← v.told, e) p }
+module _ (m : Model) {c : ClusterMembers} {σ : Slots} (y : Stands m σ c) (d : Detail) where
+  -- one that doesn't show
+  module _ {t : Bool} (et : t ≡ shows d c.seen.real c.seen.integer) (e : t ≡ false) where
+    none : declarations d σ c.members.now ≡ []
+    none = y.unseen d (sym et ∙ e)
 
-  pub detail-none : t ≡ false → Detailed m r d n js table table' b c b c
-  unfolding fill_faults
-  detail-none e = record { slots = v.slots; put = rw (← v.told, e) put-none }
+    pub filled-skip : σ ≡ fill m.texts c.members.now d σ
+    filled-skip = sym (fill-undeclared m.texts c.members.now d σ none)
 
--- what no member declares, none declares after a detail
-pub unseen-settled : {ts : List (List ℕ)} {d : Detail} {n : ℕ} {js table table' : List ℕ} {t : Bool} {real integer : ℕ} → Settled ts d n js table table' t
-    → Unseen n table js real integer → Unseen n table' js real integer
-unseen-settled {ts} {d} {n} {js} {table} v u = record { none = λ e h. rw v.slots (fill-keeps ts js e d (view n table) (u.none e h)) }
+    pub reported-skip : {r : Report} → Puts 1 (fill_faults m c.root.0 c.members.now d σ) r r
+    reported-skip = rw (faults-undeclared m c.members.now d σ none c.root.0) puts-none
 
--- the table is as long as it was
-pub ready-settled : {image : List ℕ} {layout : Layout} {texts : List ℕ} {n : ℕ} {js table table' : List ℕ} → Ready image layout texts n table js → length table' ≡ length table → Ready image layout texts n table' js
-ready-settled y l = record { laid = y.laid; tabled = y.tabled; room = record { fits = omega (arith, y.room.fits) }; inside = y.inside; few = y.few }
+  -- what no member declares, none declares after a detail
+  pub stands-filled : {σ' : Slots} → σ' ≡ fill m.texts c.members.now d σ → Stands m σ' c
+  stands-filled e = rw e (record {
+    root = y.root;
+    inside = rw (fill-length m.texts c.members.now d σ) y.inside;
+    unseen = λ x h. fill-keeps m.texts c.members.now x d σ (y.unseen x h);
+  })
 
-pub detail-skip : {m : Model} {r : ℕ} {d : Detail} {n : ℕ} {js table : List ℕ} {b : List ℕ} {c : Counted} {real integer : ℕ} {t : Bool} → Unseen n table js real integer → t ≡ shows d real integer → t ≡ false
-    → Detailed m r d n js table table b c b c
-detail-skip {m} {r} {d} {n} {js} {table} u et e =
-    let none : declarations d (view n table) js ≡ [] = u.none d (sym et ∙ e) in
-    record {
-      slots = sym (fill-undeclared m.texts js d (view n table) none);
-      put = rw (faults-undeclared m js d (view n table) none r) put-none;
-    }
+-- after a list of details
+pub stands-details : (m : Model) {c : ClusterMembers} (ds : List Detail) (σ : Slots) → Stands m σ c → Stands m (fill_details m.texts c.members.now ds σ) c
+unfolding fill_details
+stands-details m [] σ y = y
+stands-details m {c} (d ∷ ds) σ y = stands-details m ds (fill m.texts c.members.now d σ) (stands-filled m y d refl)
+
+module _ (m : Model) (r : ℕ) (js : List ℕ) (σ : Slots) {t : Bool} where
+  module _ (d : Detail) (et : t ≡ conflict m.texts d (declarations d σ js)) where
+    pub reported-none : {rep : Report} → t ≡ false → Puts 1 (fill_faults m r js d σ) rep rep
+    unfolding fill_faults
+    reported-none e = rw (← et, e) puts-none
+
+    pub reported-conflict : {rep rep' : Report} {n : ℕ} {code : DiagCode} {s : Subject} {x : Diagnostic} → Puts 1 (x ∷ []) rep rep' → x ≡ error code 6 n s r → n ≡ detail_number d
+        → code ≡ conflict_code d → s ≡ subject_of (connector m r) → t ≡ true → Puts 1 (fill_faults m r js d σ) rep rep'
+    unfolding fill_faults
+    reported-conflict p ex en ec es e = rw (← et, e, ← ec, ← en, ← es, ← ex) p
+
+  -- ---- 6.7
+
+  module _ (et : t ≡ conflict m.texts DisplayUnit (declarations DisplayUnit σ js)) where
+    pub display-none : {rep : Report} → t ≡ false → Puts 1 (display_faults m r js σ) rep rep
+    unfolding display_faults
+    display-none e = rw (← et, e) puts-none
+
+    pub display-differ : {rep rep' : Report} {n : ℕ} {s : Subject} {x : Diagnostic} → Puts 1 (x ∷ []) rep rep' → x ≡ warning DisplayUnitDivergence 6 n s r → n ≡ detail_number DisplayUnit
+        → s ≡ subject_of (connector m r) → t ≡ true → Puts 1 (display_faults m r js σ) rep rep'
+    unfolding display_faults
+    display-differ p ex en es e = rw (← et, e, ← en, ← es, ← ex) p
+
+pub display-skip : (m : Model) {c : ClusterMembers} {σ : Slots} {t : Bool} {r : Report} → Stands m σ c → t ≡ shows DisplayUnit c.seen.real c.seen.integer → t ≡ false
+    → Puts 1 (display_faults m c.root.0 c.members.now σ) r r
+display-skip m {c} {σ} y et e = rw (display-undeclared m c.members.now σ (y.unseen DisplayUnit (sym et ∙ e)) c.root.0) puts-none
 
 -- ---- details in turn
-
-details-nil : (ts : List (List ℕ)) (js : List ℕ) (σ : Slots) → fill_details ts js [] σ ≡ σ
-unfolding fill_details
-details-nil ts js σ = refl
-
-details-cons : (ts : List (List ℕ)) (js : List ℕ) (d : Detail) (ds : List Detail) (σ : Slots) → fill_details ts js (d ∷ ds) σ ≡ fill_details ts js ds (fill ts js d σ)
-unfolding fill_details
-details-cons ts js d ds σ = refl
-
-faults-nil : (m : Model) (r : ℕ) (js : List ℕ) (σ : Slots) → details_faults m r js [] σ ≡ []
-unfolding details_faults
-faults-nil m r js σ = refl
-
-faults-cons : (m : Model) (r : ℕ) (js : List ℕ) (d : Detail) (ds : List Detail) (σ : Slots)
-    → details_faults m r js (d ∷ ds) σ ≡ fill_faults m r js d σ ++ details_faults m r js ds (fill m.texts js d σ)
-unfolding details_faults
-faults-cons m r js d ds σ = refl
 
 unified-count : length unified_details ≡ unified_count
 unfolding unified_details
 unified-count = refl
 
-pub detail-is : (i : ℕ) {k : ℕ} {d : Detail} → i ≡ k → d ≡ get_or unified_details k IntegerMax → d ≡ get_or unified_details i IntegerMax
-detail-is i e f = rw e f
-
-pub detail-last : (i : ℕ) → (i ≡ 0 → ⊥) → (i ≡ 1 → ⊥) → (i ≡ 2 → ⊥) → (i ≡ 3 → ⊥) → (i ≡ 4 → ⊥) → IntegerMax ≡ get_or unified_details i IntegerMax
-unfolding unified_details
-detail-last zero a b c d e = absurd (a refl)
-detail-last (suc zero) a b c d e = absurd (b refl)
-detail-last (suc (suc zero)) a b c d e = absurd (c refl)
-detail-last (suc (suc (suc zero))) a b c d e = absurd (d refl)
-detail-last (suc (suc (suc (suc zero)))) a b c d e = absurd (e refl)
-detail-last (suc (suc (suc (suc (suc zero))))) a b c d e = refl
-detail-last (suc (suc (suc (suc (suc (suc i)))))) a b c d e = refl
-
 -- the details before i are filled, and `done` is what they reported
-pub record Turns (image : List ℕ) (layout : Layout) (texts : List ℕ) (r n : ℕ) (js table₀ table b₀ : List ℕ) (c₀ : Counted) (b : List ℕ) (c : Counted) (real integer i : ℕ) : Type 0 where
-  pub ready : Ready image layout texts n table js
-  pub unseen : Unseen n table js real integer
-  pub long : length table ≡ length table₀
-  pub within : i ≤ unified_count
-  pub few : Adds i c₀ c
-  pub slots : fill_details (model_of image).texts js unified_details (view n table₀) ≡ fill_details (model_of image).texts js (drop i unified_details) (view n table)
+pub record Turns (m : Model) (c : ClusterMembers) (σ₀ : Slots) (r₀ : Report) (σ : Slots) (r : Report) (i : ℕ) : Type 0 where
+  pub stands : Stands m σ c
+  pub slots : fill_details m.texts c.members.now unified_details σ₀ ≡ fill_details m.texts c.members.now (drop i unified_details) σ
   pub done : List Diagnostic
-  pub faults : details_faults (model_of image) r js unified_details (view n table₀) ≡ done ++ details_faults (model_of image) r js (drop i unified_details) (view n table)
-  pub put : Put b₀ c₀ done b c
+  pub faults : details_faults m c.root.0 c.members.now unified_details σ₀ ≡ done ++ details_faults m c.root.0 c.members.now (drop i unified_details) σ
+  pub puts : Puts i done r₀ r
 
-module _ {image : List ℕ} {layout : Layout} {texts : List ℕ} {r n : ℕ} {js table₀ : List ℕ} {b₀ : List ℕ} {c₀ : Counted} {real integer : ℕ} where
-  pub turns-start : Ready image layout texts n table₀ js → Unseen n table₀ js real integer → Turns image layout texts r n js table₀ table₀ b₀ c₀ b₀ c₀ real integer 0
-  turns-start y u = record { ready = y; unseen = u; long = refl; within = omega arith; few = omega arith; slots = refl; done = []; faults = refl; put = put-none }
+module _ {m : Model} {c : ClusterMembers} {σ₀ : Slots} {r₀ : Report} where
+  pub turns-start : Stands m σ₀ c → Turns m c σ₀ r₀ σ₀ r₀ 0
+  turns-start y = record { stands = y; slots = refl; done = []; faults = refl; puts = puts-none }
 
-  module _ {table b : List ℕ} {c : Counted} {i : ℕ} (v : Turns image layout texts r n js table₀ table b₀ c₀ b c real integer i) where
-    pub turns-ready : Ready image layout texts n table js
-    turns-ready = v.ready
+  module _ {σ : Slots} {r : Report} {i : ℕ} (v : Turns m c σ₀ r₀ σ r i) where
+    pub turns-stands : Stands m σ c
+    turns-stands = v.stands
 
-    pub turns-unseen : Unseen n table js real integer
-    turns-unseen = v.unseen
+    pub turns-room : Room unified_count r₀ → i < unified_count → Room 1 r
+    turns-room h l = omega (arith, v.puts.few)
 
-    pub turns-countable : Countable unified_count c₀ → i < unified_count → Countable 1 c
-    turns-countable h l = omega (arith, v.few)
+    rest : i < unified_count → drop i unified_details ≡ get_or unified_details i Unit ∷ drop (i + 1) unified_details
+    rest h = rw add-one (drop-cons unified_details i Unit (rw unified-count h))
 
-    pub turns-adds : Adds unified_count c₀ c
-    turns-adds = omega (arith, v.few, v.within)
-
-    pub turns-report : length b ≡ length b₀
-    turns-report = put-length v.put
-
-    rest : i < unified_count → drop i unified_details ≡ get_or unified_details i IntegerMax ∷ drop (i + 1) unified_details
-    rest h = rw add-one (drop-cons unified_details i IntegerMax (rw unified-count h))
-
-    pub turns_next : {d : Detail} {table' b' : List ℕ} {c' : Counted} → d ≡ get_or unified_details i IntegerMax → Detailed (model_of image) r d n js table table' b c b' c'
-        → Ready image layout texts n table' js → Unseen n table' js real integer → Adds 1 c c' → length table' ≡ length table → i < unified_count
-        → Turns image layout texts r n js table₀ table' b₀ c₀ b' c' real integer (i + 1)
-    turns_next {d} {table'} ed w y u k l h =
-        let m = model_of image in
-        let σ = view n table in
+    pub turns-next : {d : Detail} {σ' : Slots} {r' : Report} → d ≡ get_or unified_details i Unit → σ' ≡ fill m.texts c.members.now d σ
+        → Puts 1 (fill_faults m c.root.0 c.members.now d σ) r r' → i < unified_count → Turns m c σ₀ r₀ σ' r' (i + 1)
+    unfolding fill_details details_faults
+    turns-next {d} {σ'} ed es p h =
+        let js = c.members.now in
         let ds = drop (i + 1) unified_details in
         let q : drop i unified_details ≡ d ∷ drop (i + 1) unified_details = rest h ∙ ap (λ (x : Detail). x ∷ drop (i + 1) unified_details) (sym ed) in
         record {
-          ready = y;
-          unseen = u;
-          long = l ∙ v.long;
-          within = omega arith;
-          few = omega (arith, v.few);
-          slots = v.slots ∙ ap (λ l. fill_details m.texts js l σ) q ∙ details-cons m.texts js d ds σ ∙ ap (fill_details m.texts js ds) (sym w.slots);
-          done = v.done ++ fill_faults m r js d σ;
-          faults = v.faults ∙ ap (λ l. v.done ++ details_faults m r js l σ) q ∙ ap (λ l. v.done ++ l) (faults-cons m r js d ds σ)
-              ∙ sym (append_assoc v.done (fill_faults m r js d σ) (details_faults m r js ds (fill m.texts js d σ)))
-              ∙ ap (λ τ. v.done ++ fill_faults m r js d σ ++ details_faults m r js ds τ) (sym w.slots);
-          put = put_then v.put w.put;
+          stands = stands-filled m v.stands d es;
+          slots = v.slots ∙ ap (λ l. fill_details m.texts js l σ) q ∙ ap (fill_details m.texts js ds) (sym es);
+          done = v.done ++ fill_faults m c.root.0 js d σ;
+          faults = v.faults ∙ ap (λ l. v.done ++ details_faults m c.root.0 js l σ) q
+              ∙ sym (append_assoc v.done (fill_faults m c.root.0 js d σ) (details_faults m c.root.0 js ds (fill m.texts js d σ)))
+              ∙ ap (λ τ. v.done ++ fill_faults m c.root.0 js d σ ++ details_faults m c.root.0 js ds τ) (sym es);
+          puts = puts-within v.puts p (omega arith);
         }
 
-    pub turns-done : unified_count ≤ i → AllDetailed (model_of image) r n js table₀ table b₀ c₀ b c
-    turns-done h =
-        let m = model_of image in
-        let σ = view n table in
-        let end : length unified_details ≤ i = rw unified-count h in
-        let q : drop i unified_details ≡ [] = drop_of_length-le unified_details end in
-        let f : details_faults m r js unified_details (view n table₀) ≡ v.done =
-        v.faults ∙ ap (λ l. v.done ++ details_faults m r js l σ) q ∙ ap (λ l. v.done ++ l) (faults-nil m r js σ) ∙ append-nil v.done in
-        record {
-          slots = sym (v.slots ∙ ap (λ l. fill_details m.texts js l σ) q ∙ details-nil m.texts js σ);
-          put = rw f v.put;
-        }
+    module _ (h : unified_count ≤ i) where
+      end : drop i unified_details ≡ []
+      end = drop_of_length-le unified_details (rw unified-count h)
 
-module _ {m : Model} {r n : ℕ} {js table : List ℕ} {b : List ℕ} {c : Counted} where
-  -- ---- 6.7, and the whole cluster
+      pub turns-slots : σ ≡ fill_details m.texts c.members.now unified_details σ₀
+      unfolding fill_details
+      turns-slots = sym (v.slots ∙ ap (λ l. fill_details m.texts c.members.now l σ) end)
 
-  pub display-none : {t : Bool} → t ≡ conflict m.texts DisplayUnit (declarations DisplayUnit (view n table) js) → t ≡ false → Displayed m r n js table b c b c
-  unfolding display_faults
-  display-none et e = record { put = rw (← et, e) put-none; few = omega arith }
+      pub turns-puts : i ≤ unified_count → Puts unified_count (details_faults m c.root.0 c.members.now unified_details σ₀) r₀ r
+      unfolding details_faults
+      turns-puts l = puts-more v.puts l (sym (v.faults ∙ ap (λ l. v.done ++ details_faults m c.root.0 c.members.now l σ) end ∙ append-nil v.done))
 
-  pub display-differ : {b' : List ℕ} {c' : Counted} {t : Bool} → Put b c (warning DisplayUnitDivergence 6 (detail_number DisplayUnit) (subject_of (connector m r)) r ∷ []) b' c' → Adds 1 c c'
-      → t ≡ conflict m.texts DisplayUnit (declarations DisplayUnit (view n table) js) → t ≡ true → Displayed m r n js table b c b' c'
-  unfolding display_faults
-  display-differ p l et e = record { put = rw (← et, e) p; few = l }
+-- ---- the whole cluster
 
-  pub display-skip : {real integer : ℕ} {t : Bool} → Unseen n table js real integer → t ≡ shows DisplayUnit real integer → t ≡ false → Displayed m r n js table b c b c
-  display-skip u et e = record { put = rw (display-undeclared m js (view n table) (u.none DisplayUnit (sym et ∙ e)) r) put-none; few = omega arith }
+module _ (m : Model) (r : ℕ) (js : List ℕ) (σ : Slots) {real integer : ℕ} (w : Sees σ js real integer (length js)) where
+  pub stands-seen : {c : ClusterMembers} → c.members.now ≡ js → c.seen.real ≡ real → c.seen.integer ≡ integer → Inside (length σ) js → c.root.0 < length m.connectors → Stands m σ c
+  stands-seen ej er ei k h = record { root = h; inside = rw ej k; unseen = λ d e. rw ej (undeclared w d (rw (← er, ← ei) e)) }
 
-  pub cluster-skip : {real integer : ℕ} {t : Bool} → Sees (view n table) js real integer (length js) → t ≡ (eqb real 0 && eqb integer 0) → t ≡ true → Clustered m r n js table table b c b c
-  cluster-skip {real = real} {integer = integer} w et e =
-      let σ = view n table in
-      let none : (d : Detail) → declarations d σ js ≡ [] = λ d. undeclared w d (nothing-shows real integer et e d) in
-      record {
-        slots = sym (details-undeclared m js σ none unified_details);
-        put = rw (cluster-undeclared m js σ none r) put-none;
-        few = omega arith;
-      }
+  module _ {t : Bool} (et : t ≡ (eqb real 0 && eqb integer 0)) (e : t ≡ true) where
+    nothing : (d : Detail) → declarations d σ js ≡ []
+    nothing d = undeclared w d (nothing-shows real integer et e d)
 
-pub unseen-seen : {n : ℕ} {js table : List ℕ} {real integer : ℕ} → Sees (view n table) js real integer (length js) → Unseen n table js real integer
-unseen-seen w = record { none = undeclared w }
+    pub cluster-kept : σ ≡ fill_details m.texts js unified_details σ
+    cluster-kept = sym (details-undeclared m js σ nothing unified_details)
+
+    pub cluster-silent : {n : ℕ} {rep : Report} → Puts n (cluster_faults m r js σ) rep rep
+    cluster-silent = rw (cluster-undeclared m js σ nothing r) puts-none
 
 -- the details that are filled, and 6.7
-module _ {m : Model} {r n : ℕ} {js table table' b b' b'' : List ℕ} {c c' c'' : Counted} where
-  pub cluster-all : AllDetailed m r n js table table' b c b' c' → Displayed m r n js table' b' c' b'' c'' → Adds unified_count c c' → Clustered m r n js table table' b c b'' c''
-  unfolding cluster_faults
-  cluster-all v p k = record {
-    slots = v.slots;
-    put = put_then v.put (rw v.slots at p.put);
-    few = omega (arith, p.few);
-  }
+pub cluster-all : (m : Model) (r : ℕ) (js : List ℕ) (σ : Slots) {σ' : Slots} {a b c : Report} → σ' ≡ fill_details m.texts js unified_details σ
+    → Puts unified_count (details_faults m r js unified_details σ) a b → Puts 1 (display_faults m r js σ') b c → Puts most_cluster_faults (cluster_faults m r js σ) a c
+unfolding cluster_faults
+cluster-all m r js σ es p q = puts-within p (rw es at q) (omega arith)

@@ -1,13 +1,12 @@
--- What the code's steps give for one cluster of rule 6 (FORMAT 16): the table, and the report, a buffer b in which c were counted that has become b' with c'.
-use Rattle.std.specs.Prelude.{ℕ, ◌+◌, ◌≡◌, false, List, []}
-use Rattle.oce_model.specs.Model.{Model}
-use Rattle.oce_diag.specs.declared.Counted.{Counted}
-use Rattle.oce_diag.specs.Putting.{Adds, Put}
-use Rattle.unify.specs.Details.{unified_details}
-use Rattle.unify.specs.Unify.{declarations, fill, fill_faults, display_faults, fill_details, details_faults, cluster_faults}
+-- One cluster of rule 6 as code has it (FORMAT 16).
+use Rattle.std.specs.Prelude.{ℕ, ◌+◌, ◌<◌, ◌≡◌, false, [], length}
+use Rattle.oce_model.specs.Model.{Model, connector_count}
+use Rattle.unify.specs.Slots.{Slots}
+use Rattle.unify.specs.Unify.{declarations}
 use Rattle.unify.specs.declared.Detail.{Detail}
-use Rattle.unify_slots.specs.Table.{view}
+use Rattle.unify_slots.specs.Slots.{Inside}
 use Rattle.unify_seen.specs.Seen.{shows}
+use Rattle.unify_cluster.specs.declared.ClusterMembers.{ClusterMembers}
 
 -- how many details are filled
 abbrev pub unified_count : ℕ
@@ -17,27 +16,8 @@ unified_count = 6
 abbrev pub most_cluster_faults : ℕ
 most_cluster_faults = unified_count + 1
 
--- by one detail
-pub record Detailed (m : Model) (r : ℕ) (d : Detail) (n : ℕ) (js table table' b : List ℕ) (c : Counted) (b' : List ℕ) (c' : Counted) : Type 0 where
-  pub slots : view n table' ≡ fill m.texts js d (view n table)
-  pub put : Put b c (fill_faults m r js d (view n table)) b' c'
-
--- by all that are filled
-pub record AllDetailed (m : Model) (r n : ℕ) (js table table' b : List ℕ) (c : Counted) (b' : List ℕ) (c' : Counted) : Type 0 where
-  pub slots : view n table' ≡ fill_details m.texts js unified_details (view n table)
-  pub put : Put b c (details_faults m r js unified_details (view n table)) b' c'
-
--- by 6.7
-pub record Displayed (m : Model) (r n : ℕ) (js table b : List ℕ) (c : Counted) (b' : List ℕ) (c' : Counted) : Type 0 where
-  pub put : Put b c (display_faults m r js (view n table)) b' c'
-  pub few : Adds 1 c c'
-
--- by the whole cluster
-pub record Clustered (m : Model) (r n : ℕ) (js table table' b : List ℕ) (c : Counted) (b' : List ℕ) (c' : Counted) : Type 0 where
-  pub slots : view n table' ≡ fill_details m.texts js unified_details (view n table)
-  pub put : Put b c (cluster_faults m r js (view n table)) b' c'
-  pub few : Adds most_cluster_faults c c'
-
--- what lets a detail be skipped: where it doesn't show in what was seen of the members, none of them declares it
-pub record Unseen (n : ℕ) (table js : List ℕ) (real integer : ℕ) : Type 0 where
-  pub none : (d : Detail) → shows d real integer ≡ false → declarations d (view n table) js ≡ []
+-- its root is a connector, its members are slots, and what doesn't show in what was seen of them none of them declares
+pub record Stands (m : Model) (σ : Slots) (c : ClusterMembers) : Type 0 where
+  pub root : c.root.0 < connector_count m
+  pub inside : Inside (length σ) c.members.now
+  pub unseen : (d : Detail) → shows d c.seen.real c.seen.integer ≡ false → declarations d σ c.members.now ≡ []

@@ -1,12 +1,9 @@
 -- `unify_cluster::conflict_code` meets its contract.
-use borrow.Author.Rules.{rules}
 use Rattle.unify_cluster.proofs.Laws.{code-text, code-end}
 use Rattle.unify_cluster.proofs.conflict_code.Goals as goal
 
-ruleset mine = (code-text, code-end, rules)
-
 pub returns-then-is_text : goal.returns-then-is_text
-returns-then-is_text c = search mine
+returns-then-is_text c = code-text c.args.detail c.is_text.ensures c.if-is_text.true
 
-pub returns : goal.returns
-returns c = search mine
+pub returns-else-is_text : goal.returns-else-is_text
+returns-else-is_text c = code-end c.args.detail c.is_text.ensures c.if-is_text.false
