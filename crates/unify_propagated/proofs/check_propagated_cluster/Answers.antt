@@ -1,27 +1,23 @@
 -- `unify_propagated::check_propagated_cluster` meets its contract.
-use borrow.Author.Rules.{rules}
-use Rattle.unify_propagated.proofs.Laws.{stage-head, stage-slot, stage-links, test-none, test-same, test-crossed}
+use Rattle.oce_model.specs.Attributes.{no_attrs}
+use Rattle.oce_model.specs.Model.{model_of}
+use Rattle.unify.specs.Slots.{slot}
+use Rattle.unify_propagated.proofs.Laws.{test-no-root, test-same, test-crossed}
 use Rattle.unify_propagated.proofs.check_propagated_cluster.Goals as goal
-
-ruleset mine = (stage-head, stage-slot, stage-links, test-none, test-same, test-crossed, rules)
-
-pub overflow_add-links : goal.overflow_add-links
-overflow_add-links c = search mine
-
-pub offset_bounds-head-j : goal.offset_bounds-head-j
-offset_bounds-head-j c = search mine
-
-pub bounds-head-j : goal.bounds-head-j
-bounds-head-j c = search mine
-
-pub returns-then-links-head : goal.returns-then-links-head
-returns-then-links-head c = search mine
-
-pub slot_range-requires : goal.slot_range-requires
-slot_range-requires c = search mine
+use Rattle.unify_propagated.proofs.check_propagated_cluster.Goals.{else-is_root-via-then-is_root+else-is_crossed, else-is_root-via-else-is_root}
 
 pub returns-then-is_crossed : goal.returns-then-is_crossed
-returns-then-is_crossed c = search mine
+unfolding slot no_attrs
+returns-then-is_crossed c =
+    test-crossed (model_of c.args.image.now) c.args.slots.now c.args.root.0 c.is_root.ensures c.if-is_root.true c.range_of.ensures c.is_crossed.ensures
+    c.put.ensures c.error.ensures c.subject.ensures c.if-is_crossed.true
 
-pub returns : goal.returns
-returns c = search mine
+pub returns-else-is_root : goal.returns-else-is_root
+unfolding slot no_attrs
+returns-else-is_root c =
+    let m = model_of c.args.image.now in
+    elim c.else-is_root.branch [
+      else-is_root-via-then-is_root+else-is_crossed w ↦
+          test-same m c.args.slots.now c.args.root.0 c.is_root.ensures w.if-is_root.true w.range_of.ensures w.is_crossed.ensures w.if-is_crossed.false
+    | else-is_root-via-else-is_root w ↦ test-no-root m c.args.slots.now c.args.root.0 c.is_root.ensures w.if-is_root.false
+    ]

@@ -1,30 +1,24 @@
 -- `unify_propagated::check_propagated_clusters` meets its contract.
-use borrow.Author.Rules.{rules}
-use Rattle.unify_propagated.proofs.Laws.{tests-start, tests-stage, tests-inside, tests-countable, tests-id, tests-fit, tests-turn, tests-done, tests-report}
+use Rattle.std.proofs.Common.{refl, arith}
+use Rattle.oce_model.specs.Format.{most_connectors}
+use Rattle.oce_model.specs.Model.{model_of, connector_count}
+use Rattle.oce_diag.proofs.Reporting.{turns-start, turns-next, turns-room}
+use Rattle.unify_propagated.proofs.Laws.{filled-count, propagated-all}
 use Rattle.unify_propagated.proofs.check_propagated_clusters.Goals as goal
 
-ruleset mine = (tests-start, tests-stage, tests-inside, tests-countable, tests-id, tests-fit, tests-turn, tests-done, tests-report, rules)
-
 pub loop-r-init : goal.loop-r-init
-loop-r-init c = search mine
+loop-r-init c = turns-start
 
-pub overflow_cast-r : goal.overflow_cast-r
-overflow_cast-r c = search mine
-
-pub check_propagated_cluster-c-requires : goal.check_propagated_cluster-c-requires
-check_propagated_cluster-c-requires c = (search tests-stage, search tests-inside, search tests-countable)
-
-pub overflow_add-r : goal.overflow_add-r
-overflow_add-r c = search mine
-
-pub loop-r-smaller : goal.loop-r-smaller
-loop-r-smaller c = search mine
+pub check_propagated_cluster-requires : goal.check_propagated_cluster-requires
+check_propagated_cluster-requires c = (
+  c.requires.0,
+  filled-count (model_of c.args.image.now) c.requires.1,
+  omega arith,
+  turns-room c.loop-r.invariant (connector_count (model_of c.args.image.now)) most_connectors most_connectors c.requires.2 (omega arith) (omega arith) (omega arith),
+)
 
 pub loop-r-preserved : goal.loop-r-preserved
-loop-r-preserved c = search mine
-
-pub shape_of-report : goal.shape_of-report
-shape_of-report c = search mine
+loop-r-preserved c = turns-next c.loop-r.invariant c.check_propagated_cluster.ensures
 
 pub returns : goal.returns
-returns c = search mine
+returns c = propagated-all (model_of c.args.image.now) c.requires.1 c.connector_count-r-end.ensures.0 c.loop-r.invariant (omega arith)
