@@ -70,7 +70,7 @@ pub fn member_external(image: &Image, externals: &[u32], x: usize) -> bool
     x < image.connector_count()
         && {
             let id = image.connector(ConnectorId(x as u32)).id;
-            is_external(image.bytes(), *image.layout(), externals, id.0 as usize)
+            is_external(image, externals, id.0 as usize)
         }
 }
 

@@ -50,13 +50,7 @@ struct ClusterMembers<'a> {
 impl ClusterMembers<'_> {
     // The Rust's `unify_real` and `unify_int`: a detail, if any member declares it. The members are filled, or
     // there is an error.
-    fn unify_detail(
-        &self,
-        image: &Image,
-        slots: &mut [Attrs],
-        detail: Detail,
-        report: &mut Report,
-    )
+    fn unify_detail(&self, image: &Image, slots: &mut [Attrs], detail: Detail, report: &mut Report)
         requires { Stands (model_of image.now) slots.old self.now × Room 1 report.old }
         ensures filled { slots.new ≡ fill (model_of image.now).texts self.now.members.now detail slots.old }
         ensures reported { Puts 1 (fill_faults (model_of image.now) self.now.root.0 self.now.members.now detail slots.old) report.old report.new }

@@ -45,12 +45,7 @@ fn check_propagated_cluster(
 
 // All roots in turn, over the slots as rule 6 has filled them. The caller runs it where the whole list
 // holds no error.
-pub fn check_propagated_clusters(
-    image: &Image,
-    links: Links,
-    slots: &[Attrs],
-    report: &mut Report,
-)
+pub fn check_propagated_clusters(image: &Image, links: Links, slots: &[Attrs], report: &mut Report)
     requires { Headed (model_of image.now) links.head.now × (slots.now ≡ filled_slots (model_of image.now)) × Room most_connectors report.old }
     ensures { Puts (connector_count (model_of image.now)) (propagated (model_of image.now)) report.old report.new }
 {

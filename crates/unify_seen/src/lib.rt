@@ -21,11 +21,7 @@ pub struct Seen {
 fn take_in(had: u8, wanted: u8, a: &Attrs) -> u8
     ensures { TakenIn wanted a.now.kind a.now.marks had result }
 {
-    if a.kind == wanted {
-        had | a.marks
-    } else {
-        had
-    }
+    if a.kind == wanted { had | a.marks } else { had }
 }
 
 // What the members declare.

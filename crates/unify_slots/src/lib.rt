@@ -2,13 +2,14 @@
 // accepted image.
 #![tactic(auto)]
 
-ghost use Rattle.std.specs.Prelude.{◌≡◌, ◌<◌, length};
+ghost use Rattle.std.specs.Prelude.{◌≡◌, ◌+◌, ◌<◌, ◌≤◌, length};
+ghost use Rattle.oce_model.specs.Format.{most_connectors, most_boundary_outputs};
 ghost use Rattle.oce_model.specs.Model.{model_of};
 ghost use Rattle.unify.specs.Slots.{slots_of, slot, value, put};
 ghost use Rattle.unify_slots.specs.Slots.{slot_count};
 
 use image_records::Image;
-use oce_model::{Attrs, ConnectorId};
+use oce_model::{Attrs, ConnectorId, NUMBER_COUNT};
 use unify::Detail;
 
 // What attributes declare for a detail.
@@ -44,6 +45,20 @@ fn slot(image: &Image, j: usize) -> Attrs
     } else {
         image.boundary_output_attrs(j - connectors)
     }
+}
+
+// A slot before it is read.
+pub const NO_ATTRS: Attrs = Attrs {
+    kind: 0,
+    marks: 0,
+    nums: [0; NUMBER_COUNT],
+};
+
+// How many slots an accepted image has.
+pub fn slot_count(image: &Image) -> usize
+    ensures { (result ≡ slot_count (model_of image.now)) × (result ≤ most_connectors + most_boundary_outputs) }
+{
+    image.connector_count() + image.boundary_output_count()
 }
 
 // All slots of an accepted image.

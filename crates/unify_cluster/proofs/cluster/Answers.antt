@@ -12,8 +12,7 @@ unify_details-requires c =
 pub warn_display_unit_divergence-requires : goal.warn_display_unit_divergence-requires
 warn_display_unit_divergence-requires c =
     let m = model_of c.args.image.now in
-    let σ = c.args.slots.now in
-    (
+    let σ = c.args.slots.now in (
       rw c.unify_details.ensures.filled
           (stands-details m unified_details σ (stands-seen m c.args.root.0 c.args.members.now σ c.seen_in-seen.ensures refl refl refl c.requires.0 c.requires.1)),
       omega (arith, c.unify_details.ensures.reported.few),

@@ -17,7 +17,7 @@ unfolding slot no_attrs
 returns-else-is_root c =
     let m = model_of c.args.image.now in
     elim c.else-is_root.branch [
-      else-is_root-via-then-is_root+else-is_crossed w ↦
+      | else-is_root-via-then-is_root+else-is_crossed w ↦
           test-same m c.args.slots.now c.args.root.0 c.is_root.ensures w.if-is_root.true w.range_of.ensures w.is_crossed.ensures w.if-is_crossed.false
-    | else-is_root-via-else-is_root w ↦ test-no-root m c.args.slots.now c.args.root.0 c.is_root.ensures w.if-is_root.false
+      | else-is_root-via-else-is_root w ↦ test-no-root m c.args.slots.now c.args.root.0 c.is_root.ensures w.if-is_root.false
     ]

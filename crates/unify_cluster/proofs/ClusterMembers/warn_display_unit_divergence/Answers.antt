@@ -12,7 +12,7 @@ returns-then-diverges c =
 pub returns-else-shows : goal.returns-else-shows
 returns-else-shows c =
     elim c.else-shows.branch [
-      else-shows-via-then-shows+else-diverges w ↦
+      | else-shows-via-then-shows+else-diverges w ↦
           display-none (model_of c.args.image.now) c.args.self.now.root.0 c.args.self.now.members.now c.args.slots.now w.diverges.ensures w.if-diverges.false
-    | else-shows-via-else-shows w ↦ display-skip (model_of c.args.image.now) c.requires.0 c.shows.ensures w.if-shows.false
+      | else-shows-via-else-shows w ↦ display-skip (model_of c.args.image.now) c.requires.0 c.shows.ensures w.if-shows.false
     ]
