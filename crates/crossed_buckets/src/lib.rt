@@ -21,7 +21,7 @@ const TELLING_BYTES: usize = 8;
 
 // What is known of a bucket's members.
 #[derive(Clone, Copy)]
-enum Known {
+pub enum Known {
     Empty,
     OneInner,
     SeveralInner,

@@ -1,13 +1,11 @@
 -- Members of a bucket that isn't crowded make no difference to the report: a group of theirs has one member, or no external one.
 use mathlib.Core.Path.{◌≡◌, refl, sym, ap, ◌∙◌}
-use mathlib.Core.Bool.{Bool, true, false, cond, ◌&&◌, ◌||◌, and-false}
+use mathlib.Core.Bool.{Bool, true, false, cond, ◌&&◌, and-false}
 use mathlib.Core.List.{List, [], ◌∷◌, ◌++◌}
-use Prim.Native.Nat.{ℕ, zero, suc, ◌≤◌, ◌<◌}
-use native.Mathlib.Decide.{dec_lt}
-use native.Mathlib.Omega.{arith}
+use Prim.Native.Nat.{ℕ, zero, suc}
 use lib.Dec.{eqb, ltb}
 use lib.ListN.{length}
-use borrow.Author.Tests.{eq-eqb, eqb-true, eqb-false, ltb-false}
+use borrow.Author.Tests.{eq-eqb}
 use Rattle.base.specs.Lists.{each, steps, any, only, keep}
 use Rattle.base.proofs.Lists.{any_append}
 use Rattle.oce_model.specs.Texts.{order}
@@ -21,7 +19,9 @@ use Rattle.crossed_bounds.specs.Groups.{Group, members, alone, joined, by_order,
 use Rattle.crossed_bounds.proofs.Groups.{behind-less, enter_all-ascends, enter_all-append}
 use Rattle.crossed_bounds.specs.CrossedBounds.{member_external, member_key, group_faults, groups_faults}
 use Rattle.crossed_members.specs.Members.{member_joins, joining}
-use Rattle.crossed_buckets.specs.Buckets.{bucket_of, empty, one_inner, several_inner, one_external, crowded, noted, member_bucket, after_member, known, is_crowded, crowded_below, crowded_members}
+use Rattle.crossed_buckets.specs.declared.Known.{Known}
+use Rattle.crossed_buckets.specs.declared.Known.TheVariants.{Empty, OneInner, SeveralInner, OneExternal, Crowded}
+use Rattle.crossed_buckets.specs.Buckets.{bucket_of, crowded, noted, member_bucket, after_member, known, is_crowded, crowded_below, crowded_members}
 use Rattle.crossed_domains.specs.Runs.{runs}
 use Rattle.crossed_domains.proofs.Runs.{runs-sorted}
 
@@ -71,70 +71,75 @@ module _ (key : ℕ → List ℕ) (p : List ℕ → Bool) where
       go Greater true f i h = rw (i, f, h)
       go Greater false f i h = rw i h
 
--- ---- what is known of a bucket with one member more
-
-record Noting (k : ℕ) (e : Bool) (r : ℕ) : Type 0 where
-  some : empty < r
-  few : r ≤ crowded
-  member : r < one_external → e ≡ false
-  before : r < one_external → k < one_external
-  first : r ≡ one_external → k ≡ empty
-
-noting : (k : ℕ) (e : Bool) → Noting k e (noted k e)
-unfolding noted
-noting k e = go (eqb k empty) e (ltb several_inner k) refl refl
-  where
-    go : (t e u : Bool) → eqb k empty ≡ t → ltb several_inner k ≡ u → Noting k e (cond t (cond e one_external one_inner) (cond (e || u) crowded several_inner))
-    go true true u q l = record { some = omega arith; few = omega arith; member = λ h. absurd (omega arith); before = λ h. absurd (omega arith); first = λ h. eqb-true k empty q }
-    go true false u q l = record { some = omega arith; few = omega arith; member = λ h. refl; before = λ h. omega (arith, eqb-true k empty q); first = λ h. absurd (omega arith) }
-    go false true u q l = record { some = omega arith; few = omega arith; member = λ h. absurd (omega arith); before = λ h. absurd (omega arith); first = λ h. absurd (omega arith) }
-    go false false true q l = record { some = omega arith; few = omega arith; member = λ h. absurd (omega arith); before = λ h. absurd (omega arith); first = λ h. absurd (omega arith) }
-    go false false false q l = record { some = omega arith; few = omega arith; member = λ h. refl; before = λ h. omega (arith, ltb-false several_inner k l); first = λ h. absurd (omega arith) }
-
 -- ---- what a group's members are, by what is known of their bucket
 
 module _ (external : ℕ → Bool) where
-  record Told (k : ℕ) (g : Group) : Type 0 where
-    some : empty < k
-    few : k ≤ crowded
-    inner : k < one_external → any external (members g) ≡ false
-    one : k ≡ one_external → g.others ≡ []
+  abbrev Told : Known → Group → Type 0
+  Told Empty g = ⊥
+  Told OneInner g = any external (members g) ≡ false
+  Told SeveralInner g = any external (members g) ≡ false
+  Told OneExternal g = g.others ≡ []
+  Told Crowded g = Unit {0}
 
   -- a member x comes into the bucket
-  module _ (k x : ℕ) where
-    told-alone : Told (noted k (external x)) (alone x)
-    unfolding any
-    told-alone = let n = noting k (external x) in record { some = n.some; few = n.few; inner = λ h. rw (n.member h); one = λ h. refl }
+  told-alone : (k : Known) (x : ℕ) → Told (noted k (external x)) (alone x)
+  unfolding any noted
+  told-alone k x = go k (external x) refl
+    where
+      go : (k : Known) (t : Bool) → external x ≡ t → Told (noted k t) (alone x)
+      go Empty true e = refl
+      go Empty false e = rw e
+      go OneInner true e = tt
+      go OneInner false e = rw e
+      go SeveralInner true e = tt
+      go SeveralInner false e = rw e
+      go OneExternal t e = tt
+      go Crowded t e = tt
 
-    module _ (g : Group) (t : Told k g) where
-      -- so no other was the first of its bucket
-      second : {A : Type 0} → noted k (external x) ≡ one_external → A
-      second h = absurd (omega (arith, t.some, (noting k (external x)).first h))
+  told-other : (k : Known) (x : ℕ) (g : Group) → Told k g → Told (noted k (external x)) g
+  unfolding noted
+  told-other k x g a = go k (external x) a
+    where
+      go : (k : Known) (t : Bool) → Told k g → Told (noted k t) g
+      go Empty t a = absurd a
+      go OneInner true a = tt
+      go OneInner false a = a
+      go SeveralInner true a = tt
+      go SeveralInner false a = a
+      go OneExternal t a = tt
+      go Crowded t a = tt
 
-      told-other : Told (noted k (external x)) g
-      told-other = let n = noting k (external x) in record { some = n.some; few = n.few; inner = λ h. t.inner (n.before h); one = λ h. second h }
+  told-joined : (k : Known) (x : ℕ) (g : Group) → Told k g → Told (noted k (external x)) (joined g x)
+  unfolding any noted
+  told-joined k x g a = go k (external x) refl a
+    where
+      more : external x ≡ false → any external (members g) ≡ false → any external (members (joined g x)) ≡ false
+      more e a = any_append external (members g) (x ∷ []) ∙ rw (a, e)
 
-      told-joined : Told (noted k (external x)) (joined g x)
-      unfolding any
-      told-joined =
-          let n = noting k (external x) in
-          record { some = n.some; few = n.few; inner = λ h. any_append external (members g) (x ∷ []) ∙ rw (t.inner (n.before h), n.member h); one = λ h. second h }
+      go : (k : Known) (t : Bool) → external x ≡ t → Told k g → Told (noted k t) (joined g x)
+      go Empty t e a = absurd a
+      go OneInner true e a = tt
+      go OneInner false e a = more e a
+      go SeveralInner true e a = tt
+      go SeveralInner false e a = more e a
+      go OneExternal t e a = tt
+      go Crowded t e a = tt
 
   module _ (key : ℕ → List ℕ) where
     -- f b is known of bucket b
-    abbrev AllTold : (ℕ → ℕ) → List Group → Type 0
+    abbrev AllTold : (ℕ → Known) → List Group → Type 0
     AllTold f [] = Unit {0}
     AllTold f (g ∷ gs) = Told (f (bucket_of (key g.first))) g × AllTold f gs
 
-    module _ (x : ℕ) (f : ℕ → ℕ) where
+    module _ (x : ℕ) (f : ℕ → Known) where
       -- what is known with x
-      abbrev with : ℕ → ℕ
+      abbrev with : ℕ → Known
       with b = cond (eqb (bucket_of (key x)) b) (noted (f b) (external x)) (f b)
 
       told_with : (g : Group) → Told (f (bucket_of (key g.first))) g → Told (with (bucket_of (key g.first))) g
       told_with g t = go (eqb (bucket_of (key x)) (bucket_of (key g.first)))
         where
-          k : ℕ
+          k : Known
           k = f (bucket_of (key g.first))
 
           go : (u : Bool) → Told (cond u (noted k (external x)) k) g
@@ -145,21 +150,21 @@ module _ (external : ℕ → Bool) where
       all-with [] a = tt
       all-with (g ∷ gs) a = (told_with g a.0, all-with gs a.1)
 
-      own : {g : Group} → Told (noted (f (bucket_of (key x))) (external x)) g → Told (with (bucket_of (key x))) g
-      own t = rw (eq-eqb (bucket_of (key x)) (bucket_of (key x)) refl) t
+      own : (g : Group) → Told (noted (f (bucket_of (key x))) (external x)) g → Told (with (bucket_of (key x))) g
+      own g t = rw (eq-eqb (bucket_of (key x)) (bucket_of (key x)) refl) t
 
       enter-told : (gs : List Group) → AllTold f gs → AllTold with (enter key x gs)
       unfolding enter
-      enter-told [] a = (own (told-alone (f (bucket_of (key x))) x), tt)
+      enter-told [] a = (own (alone x) (told-alone (f (bucket_of (key x))) x), tt)
       enter-told (g ∷ gs) a = go (order (key x) (key g.first)) refl (enter-told gs a.1)
         where
           go : (o : Ordering) → order (key x) (key g.first) ≡ o → AllTold with (enter key x gs)
               → AllTold with (by_order o (alone x ∷ g ∷ gs) (joined g x ∷ gs) (g ∷ enter key x gs))
-          go Less e h = (own (told-alone (f (bucket_of (key x))) x), all-with (g ∷ gs) a)
+          go Less e h = (own (alone x) (told-alone (f (bucket_of (key x))) x), all-with (g ∷ gs) a)
           go Equal e h =
               let q : key x ≡ key g.first = order-equal (key x) (key g.first) e in
               let t : Told (f (bucket_of (key x))) g = rw q a.0 in
-              (rw (← q) (own (told-joined (f (bucket_of (key x))) x g t)), all-with gs a.1)
+              (rw (← q) (own (joined g x) (told-joined (f (bucket_of (key x))) x g t)), all-with gs a.1)
           go Greater e h = (told_with g a.0, h)
 
 -- ---- a model's groups
@@ -181,7 +186,7 @@ module _ (m : Model) where
 
   -- after n members, the bucket of the key is crowded
   abbrev in_crowd : ℕ → List ℕ → Bool
-  in_crowd n k = eqb (known m n (bucket_of k)) crowded
+  in_crowd n k = crowded (known m n (bucket_of k))
 
   -- the groups of crowded members are those groups whose bucket is crowded
   crowded-groups : (n i : ℕ) → enter_all (member_key m) [] (crowded_below m n i) ≡ passing (member_key m) (in_crowd n) (entered i)
@@ -204,13 +209,13 @@ module _ (m : Model) where
   unfolding group_faults
   single-faults g e = let l : ltb 1 (length (members g)) ≡ false = ap (λ xs. ltb 1 (suc (length xs))) e in rw (l, and-false)
 
-  told-faults : (k : ℕ) (g : Group) → Told (member_external m) k g → eqb k crowded ≡ false → group_faults m g ≡ []
+  told-faults : (k : Known) (g : Group) → Told (member_external m) k g → crowded k ≡ false → group_faults m g ≡ []
   unfolding group_faults
-  told-faults k g t e = go (dec_lt k one_external)
-    where
-      go : Dec (k < one_external) → group_faults m g ≡ []
-      go (yes h) = rw (t.inner h)
-      go (no h) = let c = t.few in let n = eqb-false k crowded e in single-faults g (t.one (omega arith))
+  told-faults Empty g t e = absurd t
+  told-faults OneInner g t e = rw t
+  told-faults SeveralInner g t e = rw t
+  told-faults OneExternal g t e = single-faults g t
+  told-faults Crowded g t e = absurd (cc)
 
   passing-faults : (n : ℕ) (gs : List Group) → AllTold (member_external m) (member_key m) (known m n) gs → groups_faults m (passing (member_key m) (in_crowd n) gs) ≡ groups_faults m gs
   unfolding groups_faults keep

@@ -1,9 +1,8 @@
 -- The pass over the sorted members reports their runs.
 use mathlib.Core.Path.{◌≡◌, refl, sym, ap, ◌∙◌}
-use mathlib.Core.Logic.{◌≢◌}
 use mathlib.Core.Bool.{Bool, true, false, cond, ◌||◌}
 use mathlib.Core.List.{List, [], ◌∷◌, ◌++◌, map, map-append, append-nil, append_assoc}
-use Prim.Native.Nat.{ℕ, ◌+◌, ◌-◌, ◌≤◌, ◌<◌}
+use Prim.Native.Nat.{ℕ, suc, ◌+◌, ◌≤◌, ◌<◌}
 use native.Mathlib.Omega.{arith}
 use native.Mathlib.Numerals.{add-one}
 use lib.ListN.{length, get_or, drop, length-append, drop_of_length-le}
@@ -13,9 +12,9 @@ use Rattle.base.proofs.Lists.{any_append}
 use Rattle.numbers.specs.Bytes.{short_range}
 use Rattle.oce_model.specs.Texts.{order, is_equal}
 use Rattle.oce_model.specs.Model.{Model}
-use Rattle.oce_diag.specs.Putting.{total, Put, Countable}
-use Rattle.oce_diag.specs.declared.Counted.{Counted}
-use Rattle.oce_diag.proofs.Putting.{put-none, put_then, put-length}
+use Rattle.oce_diag.specs.Reporting.{Room, Puts}
+use Rattle.oce_diag.specs.declared.report.Report.{Report}
+use Rattle.oce_diag.proofs.Reporting.{puts-none, puts-then, puts-within, room-behind}
 use Rattle.crossed_bounds.specs.Ranges.{combined, take_in, take_in_all}
 use Rattle.crossed_bounds.specs.Groups.{Group, members, alone, joined}
 use Rattle.crossed_bounds.specs.CrossedBounds.{member_external, member_key, member_ranges, group_faults, groups_faults}
@@ -23,7 +22,7 @@ use Rattle.crossed_bounds.specs.Ends.{Range}
 use Rattle.crossed_bounds.proofs.Combined.{combined-more}
 use Rattle.crossed_members.specs.Members.{member_range}
 use Rattle.crossed_domains.specs.Runs.{runs_from, runs}
-use Rattle.crossed_domains.specs.Pass.{opened, grown, is_reported, pass_faults, same_key, AllMembers, PassFits, Stepped}
+use Rattle.crossed_domains.specs.Pass.{opened, grown, is_reported, pass_faults, same_key, AllMembers, Stepped}
 use Rattle.crossed_domains.specs.declared.Pass.{Pass}
 
 or-none : (t : Bool) → (t || false) ≡ t
@@ -32,12 +31,12 @@ or-none false = refl
 
 module _ (m : Model) where
   -- what is kept of an open group
-  unfoldable pub pass_of : Counted → Group → Pass
-  pass_of c g = record { counted = c; first = g.first; members = length (members g); external = any (member_external m) (members g); kept = combined (member_ranges m g) }
+  unfoldable pub pass_of : Group → Pass
+  pass_of g = record { first = g.first; members = length (members g); external = any (member_external m) (members g); kept = combined (member_ranges m g) }
 
-  alone-is : (c : Counted) (x : ℕ) → opened c x (member_external m x) (member_range m x) ≡ pass_of c (alone x)
+  alone-is : (x : ℕ) → opened x (member_external m x) (member_range m x) ≡ pass_of (alone x)
   unfolding opened pass_of any member_ranges combined take_in_all
-  alone-is c x = rw (or-none (member_external m x))
+  alone-is x = rw (or-none (member_external m x))
 
   external-more : (g : Group) (x : ℕ) → (any (member_external m) (members g) || member_external m x) ≡ any (member_external m) (members (joined g x))
   unfolding any
@@ -48,15 +47,15 @@ module _ (m : Model) where
   kept_more g x =
       sym (ap combined (map-append (member_range m) (members g) (x ∷ [])) ∙ combined-more (member_range m g.first) (map (member_range m) g.others) (member_range m x))
 
-  joined_is : (c : Counted) (g : Group) (x : ℕ) → grown (pass_of c g) (member_external m x) (member_range m x) ≡ pass_of c (joined g x)
+  joined_is : (g : Group) (x : ℕ) → grown (pass_of g) (member_external m x) (member_range m x) ≡ pass_of (joined g x)
   unfolding grown pass_of
-  joined_is c g x =
+  joined_is g x =
       let long : length (members g) + 1 ≡ length (members (joined g x)) = omega (arith, length-append g.others (x ∷ [])) in
       rw (long, external-more g x, kept_more g x)
 
-  faults-is : (c : Counted) (g : Group) → pass_faults m (pass_of c g) ≡ group_faults m g
+  faults-is : (g : Group) → pass_faults m (pass_of g) ≡ group_faults m g
   unfolding pass_faults is_reported pass_of group_faults
-  faults-is c g = refl
+  faults-is g = refl
 
   faults-append : (fs gs : List Group) → groups_faults m (fs ++ gs) ≡ groups_faults m fs ++ groups_faults m gs
   unfolding groups_faults
@@ -67,131 +66,115 @@ module _ (m : Model) where
   unfolding groups_faults
   faults-last fs g = faults-append fs (g ∷ []) ∙ rw (append-nil (group_faults m g))
 
--- i of the sorted members are taken in: the runs before the open one are reported, and p is kept of that; n is the number of members
-pub record MembersPassed (m : Model) (n : ℕ) (xs b₀ : List ℕ) (c₀ : Counted) (b : List ℕ) (p : Pass) (i : ℕ) : Type 0 where
+-- of the sorted members y and those behind it, i of these are taken in: the runs before the open one are reported, and p is kept of that; n is the number of members
+pub record MembersPassed (m : Model) (n y : ℕ) (ys : List ℕ) (r₀ r : Report) (p : Pass) (i : ℕ) : Type 0 where
   pub group : Group
   pub done : List Group
-  pub within : i ≤ length xs
   pub first : p.first < n
-  pub few : total p.counted ≤ total c₀ + (i - 1)
-  pub more : p.members ≤ i
-  pub begun : 1 ≤ i
-  pub is : p ≡ pass_of m p.counted group
-  pub put : Put b₀ c₀ (groups_faults m done) b p.counted
-  pub split : runs (member_key m) xs ≡ done ++ runs_from (member_key m) group (drop i xs)
+  pub more : p.members ≤ i + 1
+  pub is : p ≡ pass_of m group
+  pub put : Puts i (groups_faults m done) r₀ r
+  pub split : runs_from (member_key m) (alone y) ys ≡ done ++ runs_from (member_key m) group (drop i ys)
 
-pub no-runs : (m : Model) (xs b : List ℕ) (c : Counted) → length xs ≡ 0 → Put b c (groups_faults m (runs (member_key m) xs)) b c
+pub no-runs : (m : Model) (xs : List ℕ) {n : ℕ} {r : Report} → length xs ≡ 0 → Puts n (groups_faults m (runs (member_key m) xs)) r r
 unfolding runs groups_faults
-no-runs m [] b c h = put-none
-no-runs m (x ∷ xs) b c h = absurd (omega arith)
+no-runs m [] h = puts-none
+no-runs m (x ∷ xs) h = absurd (omega arith)
 
-runs-start : (key : ℕ → List ℕ) (xs : List ℕ) → 0 < length xs → runs key xs ≡ runs_from key (alone (get_or xs 0 0)) (drop 1 xs)
-unfolding runs
-runs-start key [] h = absurd (omega arith)
-runs-start key (x ∷ xs) h = refl
-
-module _ {m : Model} {n : ℕ} {xs b₀ : List ℕ} where
-  pub passed_start : (c : Counted) {p : Pass} {e : Bool} {q : Range} → p ≡ opened c (get_or xs 0 0) e q → e ≡ member_external m (get_or xs 0 0) → q ≡ member_range m (get_or xs 0 0) → AllMembers n xs → length xs ≢ 0
-      → MembersPassed m n xs b₀ p.counted b₀ p 1
+module _ (m : Model) (n y : ℕ) (ys : List ℕ) where
+  pub passed-start : {p : Pass} {e : Bool} {k : Range} {r : Report} → p ≡ opened y e k → e ≡ member_external m y → k ≡ member_range m y → y < n → MembersPassed m n y ys r r p 0
   unfolding opened groups_faults
-  passed_start c {p} f e q a z =
-      let h : 0 < length xs = omega arith in
-      let x = get_or xs 0 0 in
-      let g : p ≡ opened c x (member_external m x) (member_range m x) = rw (← e, ← q) f in
-      let k : p.counted ≡ c = ap (λ z. z.counted) f in
-      let o : p.members ≡ 1 = ap (λ z. z.members) f in
-      let i : p.first ≡ x = ap (λ z. z.first) f in
+  passed-start {p} f e k h =
+      let g : p ≡ opened y (member_external m y) (member_range m y) = rw (← e, ← k) f in
+      let o : p.members ≡ 1 = ap (λ (z : Pass). z.members) f in
+      let i : p.first ≡ y = ap (λ (z : Pass). z.first) f in
       record {
-        group = alone x;
+        group = alone y;
         done = [];
-        within = omega arith;
-        first = rw i (a.at 0 h);
-        few = omega arith;
+        first = rw i h;
         more = omega arith;
-        begun = omega arith;
-        is = g ∙ alone-is m c x ∙ ap (λ z. pass_of m z (alone x)) (sym k);
-        put = put-none;
-        split = runs-start (member_key m) xs h;
+        is = g ∙ alone-is m y;
+        put = puts-none;
+        split = refl;
       }
 
-module _ {m : Model} {n : ℕ} {xs b₀ : List ℕ} {c₀ : Counted} where
-  pub passed-turn : {b b' : List ℕ} {p r : Pass} {i : ℕ} → MembersPassed m n xs b₀ c₀ b p i → Stepped m p (get_or xs i 0) b b' r → AllMembers n xs → i < length xs → MembersPassed m n xs b₀ c₀ b' r (i + 1)
+module _ {m : Model} {n y : ℕ} {ys : List ℕ} {r₀ : Report} where
+  pub passed-turn : {r r' : Report} {p q : Pass} {i : ℕ} → MembersPassed m n y ys r₀ r p i → Stepped m p (get_or ys i 0) r r' q → get_or ys i 0 < n → i < length ys → MembersPassed m n y ys r₀ r' q (i + 1)
   unfolding runs_from grown opened same_key pass_of
-  passed-turn {b} {b'} {p} {r} {i} v s a h = go (same_key m p.first x) refl
+  passed-turn {r} {r'} {p} {q} {i} v s a h = go (same_key m p.first x) refl
     where
       g : Group
       g = v.group
 
       x : ℕ
-      x = get_or xs i 0
+      x = get_or ys i 0
 
       f : g.first ≡ p.first
-      f = sym (ap (λ z. z.first) v.is)
+      f = sym (ap (λ (z : Pass). z.first) v.is)
 
       test : (t : Bool) → same_key m p.first x ≡ t → is_equal (order (member_key m g.first) (member_key m x)) ≡ t
       test t e = ap (λ y. is_equal (order (member_key m y) (member_key m x))) f ∙ e
 
       faults : pass_faults m p ≡ group_faults m g
-      faults = ap (pass_faults m) v.is ∙ faults-is m p.counted g
+      faults = ap (pass_faults m) v.is ∙ faults-is m g
 
-      cut : runs (member_key m) xs
-          ≡ v.done ++ cond (is_equal (order (member_key m g.first) (member_key m x))) (runs_from (member_key m) (joined g x) (drop (i + 1) xs)) (g ∷ runs_from (member_key m) (alone x) (drop (i + 1) xs))
-      cut = v.split ∙ rw (drop-cons xs i 0 h, add-one i)
+      cut : runs_from (member_key m) (alone y) ys
+          ≡ v.done ++ cond (is_equal (order (member_key m g.first) (member_key m x))) (runs_from (member_key m) (joined g x) (drop (i + 1) ys)) (g ∷ runs_from (member_key m) (alone x) (drop (i + 1) ys))
+      cut = v.split ∙ rw (drop-cons ys i 0 h, add-one i)
 
-      go : (t : Bool) → same_key m p.first x ≡ t → MembersPassed m n xs b₀ c₀ b' r (i + 1)
+      go : (t : Bool) → same_key m p.first x ≡ t → MembersPassed m n y ys r₀ r' q (i + 1)
       go true t =
-          let q : Put b p.counted [] b' r.counted = rw t at s.put in
-          let o : r ≡ grown p (member_external m x) (member_range m x) = rw t at s.next in
-          let c : r.counted ≡ p.counted = ap (λ z. z.counted) o in
-          let k : r.first ≡ p.first = ap (λ z. z.first) o in
+          let o : q ≡ grown p (member_external m x) (member_range m x) = rw t at s.next in
+          let k : q.first ≡ p.first = ap (λ (z : Pass). z.first) o in
+          let u : Puts 1 [] r r' = rw t at s.put in
           record {
             group = joined g x;
             done = v.done;
-            within = omega arith;
             first = rw k v.first;
-            few = omega (arith, v.few, v.begun, s.few);
             more = omega (arith, v.more, s.more);
-            begun = omega arith;
-            is = o ∙ ap (λ z. grown z (member_external m x) (member_range m x)) v.is ∙ joined_is m p.counted g x ∙ ap (λ z. pass_of m z (joined g x)) (sym c);
-            put = rw (append-nil (groups_faults m v.done)) at (put_then v.put q);
+            is = o ∙ ap (λ z. grown z (member_external m x) (member_range m x)) v.is ∙ joined_is m g x;
+            put = rw (append-nil (groups_faults m v.done)) at (puts-then v.put u);
             split = cut ∙ rw (test true t);
           }
       go false t =
-          let q : Put b p.counted (pass_faults m p) b' r.counted = rw t at s.put in
-          let o : r ≡ opened r.counted x (member_external m x) (member_range m x) = rw t at s.next in
-          let k : r.first ≡ x = ap (λ z. z.first) o in
+          let o : q ≡ opened x (member_external m x) (member_range m x) = rw t at s.next in
+          let k : q.first ≡ x = ap (λ (z : Pass). z.first) o in
+          let u : Puts 1 (pass_faults m p) r r' = rw t at s.put in
           record {
             group = alone x;
             done = v.done ++ (g ∷ []);
-            within = omega arith;
-            first = rw k (a.at i h);
-            few = omega (arith, v.few, v.begun, s.few);
+            first = rw k a;
             more = omega (arith, v.more, s.more);
-            begun = omega arith;
-            is = o ∙ alone-is m r.counted x;
-            put = rw (faults-last m v.done g) (put_then v.put (rw faults at q));
-            split = cut ∙ rw (test false t) (sym (append_assoc v.done (g ∷ []) (runs_from (member_key m) (alone x) (drop (i + 1) xs))));
+            is = o ∙ alone-is m x;
+            put = rw (faults-last m v.done g) (puts-then v.put (rw faults at u));
+            split = cut ∙ rw (test false t) (sym (append_assoc v.done (g ∷ []) (runs_from (member_key m) (alone x) (drop (i + 1) ys))));
           }
 
-module _ {m : Model} {n : ℕ} {xs b₀ : List ℕ} {c₀ : Counted} {b : List ℕ} {p : Pass} {i : ℕ} (v : MembersPassed m n xs b₀ c₀ b p i) where
-  pub passed_length : length b ≡ length b₀
-  passed_length = put-length v.put
+-- the first of the members, and those behind it, are members
+module _ {n y : ℕ} {xs ys : List ℕ} (a : AllMembers n xs) (e : xs ≡ y ∷ ys) where
+  pub member-first : y < n
+  member-first = let h : 0 < length xs = omega (arith, ap length e) in rw e at (a.at 0 h)
 
-  -- c was counted before the first group
-  module _ {c : Counted} (o : c₀ ≡ c) where
-    pub passed-small : Countable (length xs) c → length xs < short_range → PassFits p
-    passed-small k h =
-        let l : Countable (length xs) c₀ = rw o k in
-        record { few = omega (arith, v.few, v.begun, v.within); members = omega (arith, v.more, v.within) }
+  pub member-next : (i : ℕ) → i < length ys → get_or ys i 0 < n
+  member-next i k = let h : suc i < length xs = omega (arith, ap length e) in rw e at (a.at (suc i) h)
 
-    module _ {b' : List ℕ} {r : Counted} (u : Put b p.counted (pass_faults m p) b' r) where
-      pub passed-end : length xs ≤ i → Put b₀ c (groups_faults m (runs (member_key m) xs)) b' r
-      unfolding runs_from
-      passed-end h =
-          let g = v.group in
-          let faults : pass_faults m p ≡ group_faults m g = ap (pass_faults m) v.is ∙ faults-is m p.counted g in
-          let cut : runs (member_key m) xs ≡ v.done ++ (g ∷ []) = v.split ∙ rw (drop_of_length-le xs h) in
-          rw (← o, cut, faults-last m v.done g) (put_then v.put (rw faults at u))
+module _ {m : Model} {n y : ℕ} {ys xs : List ℕ} {r₀ r : Report} {p : Pass} {i : ℕ} (v : MembersPassed m n y ys r₀ r p i) (e : xs ≡ y ∷ ys) where
+  long : length xs ≡ length ys + 1
+  long = omega (arith, ap length e)
 
-      pub passed-few : total r ≤ total p.counted + 1 → total r ≤ total c + length xs
-      passed-few k = let l : total c₀ ≡ total c = rw o in omega (arith, v.few, v.begun, v.within)
+  pub passed-small : length xs < short_range → i ≤ length ys → p.members < short_range
+  passed-small h k = omega (arith, long, v.more)
+
+  pub passed-room : Room (length xs) r₀ → i ≤ length ys → Room 1 r
+  passed-room h k = room-behind 1 (length xs) v.put h (omega (arith, long))
+
+  pub passed-end : {r' : Report} → Puts 1 (pass_faults m p) r r' → i ≡ length ys → Puts (length xs) (groups_faults m (runs (member_key m) xs)) r₀ r'
+  unfolding runs runs_from
+  passed-end {r'} u h =
+      let g = v.group in
+      let faults : pass_faults m p ≡ group_faults m g = ap (pass_faults m) v.is ∙ faults-is m g in
+      let k : length ys ≤ i = omega arith in
+      let cut : runs_from (member_key m) (alone y) ys ≡ v.done ++ (g ∷ []) = v.split ∙ rw (drop_of_length-le ys k) in
+      let w : Puts (length xs) (groups_faults m v.done ++ group_faults m g) r₀ r' = puts-within v.put (rw faults at u) (omega (arith, long)) in
+      let q : runs (member_key m) xs ≡ runs_from (member_key m) (alone y) ys = rw e in
+      rw (q, cut, faults-last m v.done g) w

@@ -1,13 +1,12 @@
 -- How the code takes the sorted members in: what it keeps of the open group, one member at a time.
 use Rattle.std.specs.Prelude.{ℕ, ◌+◌, ◌≤◌, ◌<◌, ◌≡◌, Bool, cond, ◌&&◌, ◌||◌, List, [], ◌∷◌, ltb, length, get_or}
 use Rattle.base.specs.Lists.{only}
-use Rattle.numbers.specs.Bytes.{short_range}
 use Rattle.oce_model.specs.Texts.{order, is_equal}
 use Rattle.oce_model.specs.Model.{Model}
 use Rattle.oce_diag.specs.Diagnostics.{error}
-use Rattle.oce_diag.specs.Putting.{Countable, Adds, Put}
-use Rattle.oce_diag.specs.declared.Counted.{Counted}
+use Rattle.oce_diag.specs.Reporting.{Puts}
 use Rattle.oce_diag.specs.declared.Diagnostic.{Diagnostic}
+use Rattle.oce_diag.specs.declared.report.Report.{Report}
 use Rattle.oce_diag.specs.declared.Subject.TheVariants.{Text}
 use Rattle.oce_diag.specs.declared.DiagCode.TheVariants.{CrossedBounds}
 use Rattle.crossed_bounds.specs.Ranges.{crossed, uncrossed, take_in}
@@ -16,17 +15,13 @@ use Rattle.crossed_bounds.specs.Ends.{Range}
 use Rattle.crossed_members.specs.Members.{member_range}
 use Rattle.crossed_domains.specs.declared.Pass.{Pass}
 
--- so many members have shorter arrays
-abbrev pub few_members : ℕ
-few_members = 256
-
 -- a group is opened by member x, which is external or not and has range r
-unfoldable pub opened : Counted → ℕ → Bool → Range → Pass
-opened c x e r = record { counted = c; first = x; members = 1; external = e; kept = uncrossed r }
+unfoldable pub opened : ℕ → Bool → Range → Pass
+opened x e r = record { first = x; members = 1; external = e; kept = uncrossed r }
 
 -- a member joins the open group
 unfoldable pub grown : Pass → Bool → Range → Pass
-grown p e r = record { counted = p.counted; first = p.first; members = p.members + 1; external = p.external || e; kept = take_in p.kept r }
+grown p e r = record { first = p.first; members = p.members + 1; external = p.external || e; kept = take_in p.kept r }
 
 -- the open group is to be reported
 unfoldable pub is_reported : Pass → Bool
@@ -49,14 +44,8 @@ Below n (x ∷ xs) = (x < n) × Below n xs
 pub record AllMembers (n : ℕ) (xs : List ℕ) : Type 0 where
   pub at : (i : ℕ) → i < length xs → get_or xs i 0 < n
 
--- what is counted fits
-pub record PassFits (p : Pass) : Type 0 where
-  pub few : Countable 1 p.counted
-  pub members : p.members < short_range
-
 -- the next member joins the open group, or that is closed and the member opens another
-pub record Stepped (m : Model) (p : Pass) (x : ℕ) (b b' : List ℕ) (r : Pass) : Type 0 where
-  pub put : Put b p.counted (cond (same_key m p.first x) [] (pass_faults m p)) b' r.counted
-  pub next : r ≡ cond (same_key m p.first x) (grown p (member_external m x) (member_range m x)) (opened r.counted x (member_external m x) (member_range m x))
-  pub few : Adds 1 p.counted r.counted
-  pub more : r.members ≤ p.members + 1
+pub record Stepped (m : Model) (p : Pass) (x : ℕ) (r₀ r : Report) (q : Pass) : Type 0 where
+  pub put : Puts 1 (cond (same_key m p.first x) [] (pass_faults m p)) r₀ r
+  pub next : q ≡ cond (same_key m p.first x) (grown p (member_external m x) (member_range m x)) (opened x (member_external m x) (member_range m x))
+  pub more : q.members ≤ p.members + 1

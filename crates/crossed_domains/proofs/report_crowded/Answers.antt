@@ -1,12 +1,25 @@
--- `crossed_domains::report_crowded` meets its contract.
+-- The members of crowded buckets, sorted, are reported as all are.
 use native.Mathlib.Omega.{arith}
-use Rattle.crossed_domains.proofs.Laws.{front-collected, front-few}
+use mathlib.Core.Path.{ap, ◌∙◌}
+use Rattle.oce_diag.proofs.Reporting.{puts-more}
+use Rattle.oce_model.specs.Model.{model_of}
+use Rattle.crossed_bounds.specs.CrossedBounds.{member_key, groups_faults}
+use Rattle.crossed_domains.specs.Runs.{runs}
+use Rattle.crossed_domains.proofs.Laws.{members-sorted, front-few, sorted-key, collected-below, collected-faults}
 use Rattle.crossed_domains.proofs.report_crowded.Goals as goal
 
-pub report_members-requires : goal.report_members-requires
-report_members-requires c =
+pub report_groups-requires : goal.report_groups-requires
+report_groups-requires c =
     let pre = c.requires in
+    let found = c.collect_crowded-k.ensures.records in
+    let order = c.sort.ensures in
+    let few = front-few _ _ order found.1 in
+    (pre.0, members-sorted _ _ order _ (collected-below (model_of c.args.image.now) found.0), omega (arith, few, pre.4), omega (arith, few, pre.5))
+
+pub returns : goal.returns
+returns c =
+    let m = model_of c.args.image.now in
     let found = c.collect_crowded-k.ensures in
-    let crowd = found.records.0 in
-    let few = front-few _ found.records.1 in
-    (pre.0, pre.1, pre.2, found.iri, search (front-collected, crowd), few, omega (arith, few, pre.4), pre.6)
+    let order = c.sort.ensures in
+    let key = sorted-key c.args.image.now found.members _ order in
+    puts-more c.report_groups.ensures (front-few _ _ order found.records.1) (ap (λ l. groups_faults m (runs (member_key m) l)) key ∙ collected-faults m found.records.0)

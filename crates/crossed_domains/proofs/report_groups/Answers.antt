@@ -1,45 +1,29 @@
--- `crossed_domains::report_groups` meets its contract.
-use mathlib.Core.Path.{◌∙◌}
-use borrow.Author.Rules.{rules}
-use Rattle.oce_diag.proofs.Putting.{put-length}
+-- The pass over the members behind the first.
 use native.Mathlib.Omega.{arith}
-use Rattle.crossed_domains.proofs.Laws.{first_member, member-at}
-use Rattle.crossed_domains.proofs.Reporting.{no-runs, passed_start, passed-turn, passed-end, passed-few, passed-small, passed_length}
+use Rattle.crossed_domains.proofs.Reporting.{no-runs, passed-start, passed-turn, passed-end, passed-small, passed-room, member-first, member-next}
 use Rattle.crossed_domains.proofs.report_groups.Goals as goal
 
--- the loop's test and the records' number lie too far back for `search` to find
-pub overflow_add-i : goal.overflow_add-i
-overflow_add-i c = let pre = c.requires in omega (arith, c.loop-i-test.true, pre.4)
+pub returns-in_default : goal.returns-in_default
+returns-in_default c = no-runs _ _ c.in_default.ensures.cases
 
-pub loop-i-smaller : goal.loop-i-smaller
-loop-i-smaller c = omega (arith, c.loop-i-test.true)
-
-pub loop-i-preserved : goal.loop-i-preserved
-loop-i-preserved c =
+pub loop-y-init : goal.loop-y-init
+loop-y-init c =
     let pre = c.requires in
-    passed-turn c.loop-i.invariant c.step-p.ensures pre.3 c.loop-i-test.true
-
-pub shape_of-report : goal.shape_of-report
-shape_of-report c = put-length c.close.ensures.0 ∙ passed_length c.loop-i.invariant
-
-pub returns : goal.returns
-returns c =
-    let inv = c.loop-i.invariant in
-    let began = c.open-p.ensures.1 in
-    let put = c.close.ensures in
-    (passed-end inv began put.0 c.loop-i-test.false, passed-few inv began put.0 put.1)
-
-pub returns-then-records-eq0 : goal.returns-then-records-eq0
-returns-then-records-eq0 c = search (no-runs, rules)
-
-pub member_range-range-requires : goal.member_range-range-requires
-member_range-range-requires c = search (first_member, rules)
-
-pub loop-i-init : goal.loop-i-init
-loop-i-init c = search (passed_start, rules)
+    let parts = c.in-Some.ensures.cases in
+    passed-start _ _ _ _ c.open-p.ensures c.member_external-external.ensures c.member_range.ensures (member-first pre.1 parts.0)
 
 pub step-p-requires : goal.step-p-requires
-step-p-requires c = search (passed-small, member-at, rules)
+step-p-requires c =
+    let pre = c.requires in
+    let parts = c.in-Some.ensures.cases in
+    let at = c.loop-y.invariant in
+    (pre.0, at.first, member-next pre.1 parts.0 _ c.loop-y-test.true, passed-small at parts.0 pre.2 (omega arith), passed-room at parts.0 pre.3 (omega arith))
 
-pub close-requires : goal.close-requires
-close-requires c = search (passed-small, rules)
+pub loop-y-preserved : goal.loop-y-preserved
+loop-y-preserved c =
+    let pre = c.requires in
+    let parts = c.in-Some.ensures.cases in
+    passed-turn c.loop-y.invariant c.step-p.ensures (member-next pre.1 parts.0 _ c.loop-y-test.true) c.loop-y-test.true
+
+pub returns : goal.returns
+returns c = let parts = c.in-Some.ensures.cases in passed-end c.loop-y.invariant parts.0 c.close.ensures (omega arith)

@@ -1,4 +1,4 @@
--- `crossed_domains::same-key` meets its contract.
+-- Two texts are the same where their bytes don't differ.
 use borrow.Author.Rules.{rules}
 use Rattle.crossed_domains.proofs.Laws.{same-key}
 use Rattle.crossed_domains.proofs.same_key.Goals as goal
