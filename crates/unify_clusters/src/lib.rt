@@ -2,99 +2,63 @@
 // the list then holds no error, the test of every root's range.
 #![tactic(auto)]
 
-ghost use Rattle.std.specs.Prelude.{◌+◌, ◌≤◌, ◌<◌};
-ghost use Rattle.oce_model.specs.Model.{model_of};
-ghost use Rattle.oce_diag.specs.Putting.{Countable, Adds};
-ghost use Rattle.unify_slots.specs.Loading.{Read};
-ghost use Rattle.unify_clusters.specs.Roots.{Stage, Rooted, AllRooted, most_roots_faults};
-ghost use Rattle.oce_model.specs.Format.{text_tag};
-ghost use Rattle.image_accept.specs.Layout.{Laid, Tabled};
+ghost use Rattle.std.specs.Prelude.{◌≡◌, ◌*◌, ◌<◌, length};
+ghost use Rattle.oce_model.specs.Model.{model_of, connector_count};
+ghost use Rattle.oce_diag.specs.Reporting.{Room, Puts};
 ghost use Rattle.structural_degrees.specs.Columns.{Degrees};
-ghost use Rattle.unify_slots.specs.Table.{slot_count, Room};
+ghost use Rattle.unify.specs.Slots.{slots_of};
+ghost use Rattle.unify.specs.Unify.{fill_root, root_faults, filled_slots, clusters_faults};
+ghost use Rattle.unify_slots.specs.Slots.{slot_count};
+ghost use Rattle.unify_links.specs.Links.{link_count, AllLinked};
 ghost use Rattle.unify_cluster.specs.Clusters.{most_cluster_faults};
-ghost use Rattle.unify_clusters.specs.Unified.{few_connectors, few_links, Unified, most_unified_faults};
+ghost use Rattle.unify_clusters.specs.Unified.{most_roots_faults, most_unified_faults, Roomy, Unified};
 
-use image_accept::Layout;
-use oce_diag::Counted;
-use oce_model::{ConnectorId, MOST_BOUNDARY_OUTPUTS, MOST_CONNECTIONS, MOST_CONNECTORS};
+use image_records::Image;
+use oce_diag::Report;
+use oce_model::{Attrs, ConnectorId, MOST_BOUNDARY_OUTPUTS, MOST_CONNECTIONS, MOST_CONNECTORS};
 use unify_cluster::cluster;
-use unify_links::{gather, link_all};
+use unify_links::{Links, link_all, link_count};
 use unify_propagated::check_propagated_clusters;
 use unify_slots::load_slots;
 
 // ---- roots
 
-// One root: its members gathered, its details settled. A connector that drives nothing is none.
-fn unify_root<'a>(
-    image: &'a [u8],
-    layout: Layout,
-    texts: &'a [usize],
-    head: &[usize],
-    next: &[usize],
-    slots: usize,
-    table: &mut [u64],
+// One connector: if it is a root, its members gathered, its details settled.
+fn unify_root(
+    image: &Image,
+    links: Links,
+    slots: &mut [Attrs],
     members: &mut [usize],
     root: ConnectorId,
-    report: &mut [u8],
-    counted: Counted,
-) -> Counted
-    requires { Stage image.now layout texts.now head.now next.now slots table.old members.old × (root.0 < layout.connectors.count) × Countable most_cluster_faults counted }
-    ensures { Rooted (model_of image.now) root.0 slots table.old table.new report.old counted report.new result }
+    report: &mut Report,
+)
+    requires { AllLinked (model_of image.now) links × (link_count (model_of image.now) < length members.old)
+        × (length slots.old ≡ slot_count (model_of image.now)) × (root.0 < connector_count (model_of image.now)) × Room most_cluster_faults report.old }
+    ensures filled { slots.new ≡ fill_root (model_of image.now) root.0 slots.old }
+    ensures reported { Puts most_cluster_faults (root_faults (model_of image.now) root.0 slots.old) report.old report.new }
 {
-    let c = gather(image, layout, head, next, root, members);
-    if c < 2 {
-        return counted;
+    let gathered = links.gather(image, root, members);
+    if 1 < gathered.len() {
+        cluster(image, slots, gathered, root, report);
     }
-    cluster(
-        image,
-        layout,
-        texts,
-        slots,
-        table,
-        &members[0..c],
-        root,
-        report,
-        counted,
-    )
 }
 
 // All roots in turn, each seeing what the ones before it filled.
-fn unify_roots<'a>(
-    image: &'a [u8],
-    layout: Layout,
-    texts: &'a [usize],
-    head: &[usize],
-    next: &[usize],
-    slots: usize,
-    table: &mut [u64],
+fn unify_roots(
+    image: &Image,
+    links: Links,
+    slots: &mut [Attrs],
     members: &mut [usize],
-    report: &mut [u8],
-    counted: Counted,
-) -> Counted
-    requires { Stage image.now layout texts.now head.now next.now slots table.old members.old × Read (model_of image.now) slots table.old × Countable most_roots_faults counted }
-    ensures { AllRooted (model_of image.now) slots table.new report.old counted report.new result
-        × Stage image.now layout texts.now head.now next.now slots table.new members.new × Adds most_roots_faults counted result }
+    report: &mut Report,
+)
+    requires { AllLinked (model_of image.now) links × (link_count (model_of image.now) < length members.old)
+        × (slots.old ≡ slots_of (model_of image.now)) × Room most_roots_faults report.old }
+    ensures filled { slots.new ≡ filled_slots (model_of image.now) }
+    ensures reported { Puts (most_cluster_faults * connector_count (model_of image.now)) (clusters_faults (model_of image.now)) report.old report.new }
 {
-    let n = layout.connectors.count;
-    let mut c = counted;
-    let mut r = 0;
-    while r < n {
-        c = unify_root(
-            image,
-            layout,
-            texts,
-            head,
-            next,
-            slots,
-            table,
-            members,
-            ConnectorId(r as u32),
-            report,
-            c,
-        );
-        r += 1;
+    for r in 0..image.connector_count() as u32 {
+        unify_root(image, links, slots, members, ConnectorId(r), report);
     }
-    c
 }
 
 // ---- the arrays, and the whole rule
@@ -115,130 +79,37 @@ const FEW_LINKS: usize = 256;
 
 const FEW_MEMBERS: usize = FEW_LINKS + 1;
 
-// All roots in turn, over links in lists.
-fn all_roots<'a>(
-    image: &'a [u8],
-    layout: Layout,
-    texts: &'a [usize],
-    head: &[usize],
-    next: &[usize],
-    slots: usize,
-    table: &mut [u64],
-    members: &mut [usize],
-    report: &mut [u8],
-    counted: Counted,
-) -> Counted
-    requires { Stage image.now layout texts.now head.now next.now slots table.old members.old × Read (model_of image.now) slots table.old × Countable most_unified_faults counted }
-    ensures { Unified (model_of image.now) slots table.new report.old counted report.new result }
+// The links in lists, all roots in turn and the test of their ranges, in arrays that have room for them.
+fn linked_roots<const CONNECTORS: usize, const LINKS: usize, const MEMBERS: usize>(
+    image: &Image,
+    degrees: &[u32],
+    slots: &mut [Attrs],
+    report: &mut Report,
+)
+    requires { Degrees (model_of image.now) degrees.now × (slots.old ≡ slots_of (model_of image.now)) × Room most_unified_faults report.old
+        × Roomy (model_of image.now) CONNECTORS LINKS MEMBERS }
+    ensures { Unified (model_of image.now) slots.new report.old report.new }
 {
-    let c = unify_roots(
-        image, layout, texts, head, next, slots, table, members, report, counted,
-    );
-    if c.errors == 0 {
-        return check_propagated_clusters(image, layout, head, slots, table, report, c);
+    let mut head = [NO_LINK; CONNECTORS];
+    let mut next = [0; LINKS];
+    let mut members = [0; MEMBERS];
+    let links = link_all(image, degrees, &mut head, &mut next);
+    unify_roots(image, links, slots, &mut members, report);
+    if report.counted.errors == 0 {
+        check_propagated_clusters(image, links, slots, report);
     }
-    c
-}
-
-// The links in lists, and all roots in turn, where connectors and links are few.
-fn few_linked_roots<'a>(
-    image: &'a [u8],
-    layout: Layout,
-    texts: &'a [usize],
-    degrees: &[u32],
-    slots: usize,
-    table: &mut [u64],
-    report: &mut [u8],
-    counted: Counted,
-) -> Counted
-    requires { Laid image.now layout × Tabled text_tag image.now texts.now × Degrees (model_of image.now) degrees.now × Read (model_of image.now) slots table.old × Countable most_unified_faults counted × (layout.connectors.count ≤ few_connectors) × (layout.connections.count + layout.outputs.count ≤ few_links) }
-    ensures { Unified (model_of image.now) slots table.new report.old counted report.new result }
-{
-    let mut head = [NO_LINK; FEW_CONNECTORS];
-    let mut next = [0usize; FEW_LINKS];
-    let mut members = [0usize; FEW_MEMBERS];
-    link_all(image, layout, degrees, &mut head, &mut next);
-    all_roots(
-        image,
-        layout,
-        texts,
-        &head,
-        &next,
-        slots,
-        table,
-        &mut members,
-        report,
-        counted,
-    )
-}
-
-// The same for any number of them.
-fn many_linked_roots<'a>(
-    image: &'a [u8],
-    layout: Layout,
-    texts: &'a [usize],
-    degrees: &[u32],
-    slots: usize,
-    table: &mut [u64],
-    report: &mut [u8],
-    counted: Counted,
-) -> Counted
-    requires { Laid image.now layout × Tabled text_tag image.now texts.now × Degrees (model_of image.now) degrees.now × Read (model_of image.now) slots table.old × Countable most_unified_faults counted }
-    ensures { Unified (model_of image.now) slots table.new report.old counted report.new result }
-{
-    let mut head = [NO_LINK; MOST_CONNECTORS];
-    let mut next = [0usize; MOST_LINKS];
-    let mut members = [0usize; MOST_MEMBERS];
-    link_all(image, layout, degrees, &mut head, &mut next);
-    all_roots(
-        image,
-        layout,
-        texts,
-        &head,
-        &next,
-        slots,
-        table,
-        &mut members,
-        report,
-        counted,
-    )
-}
-
-// The links in lists, and all roots in turn.
-fn linked_roots<'a>(
-    image: &'a [u8],
-    layout: Layout,
-    texts: &'a [usize],
-    degrees: &[u32],
-    slots: usize,
-    table: &mut [u64],
-    report: &mut [u8],
-    counted: Counted,
-) -> Counted
-    requires { Laid image.now layout × Tabled text_tag image.now texts.now × Degrees (model_of image.now) degrees.now × Read (model_of image.now) slots table.old × Countable most_unified_faults counted }
-    ensures { Unified (model_of image.now) slots table.new report.old counted report.new result }
-{
-    if layout.connectors.count <= FEW_CONNECTORS {
-        if layout.connections.count + layout.outputs.count <= FEW_LINKS {
-            return few_linked_roots(image, layout, texts, degrees, slots, table, report, counted);
-        }
-    }
-    many_linked_roots(image, layout, texts, degrees, slots, table, report, counted)
 }
 
 // All of rule 6.
-pub fn unify_clusters<'a>(
-    image: &'a [u8],
-    layout: Layout,
-    texts: &'a [usize],
-    degrees: &[u32],
-    table: &mut [u64],
-    report: &mut [u8],
-    counted: Counted,
-) -> Counted
-    requires { Laid image.now layout × Tabled text_tag image.now texts.now × Degrees (model_of image.now) degrees.now × Room (slot_count (model_of image.now)) table.old × Countable most_unified_faults counted }
-    ensures { Unified (model_of image.now) (slot_count (model_of image.now)) table.new report.old counted report.new result }
+pub fn unify_clusters(image: &Image, degrees: &[u32], slots: &mut [Attrs], report: &mut Report)
+    requires { Degrees (model_of image.now) degrees.now × (length slots.old ≡ slot_count (model_of image.now)) × Room most_unified_faults report.old }
+    ensures { Unified (model_of image.now) slots.new report.old report.new }
 {
-    let slots = load_slots(image, layout, table);
-    linked_roots(image, layout, texts, degrees, slots, table, report, counted)
+    load_slots(image, slots);
+    let links = link_count(image);
+    if image.connector_count() <= FEW_CONNECTORS && links <= FEW_LINKS {
+        linked_roots::<FEW_CONNECTORS, FEW_LINKS, FEW_MEMBERS>(image, degrees, slots, report);
+    } else {
+        linked_roots::<MOST_CONNECTORS, MOST_LINKS, MOST_MEMBERS>(image, degrees, slots, report);
+    }
 }

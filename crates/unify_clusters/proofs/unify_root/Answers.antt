@@ -1,18 +1,16 @@
 -- `unify_clusters::unify_root` meets its contract.
-use borrow.Author.Rules.{rules}
-use Rattle.unify_clusters.proofs.Roots.{root_none, root-cluster, stage-root, stage-ready, from_zero}
+use Rattle.oce_model.specs.Model.{model_of}
+use Rattle.unify_clusters.proofs.Roots.{no-root-filled, no-root-reported, root-filled, root-reported}
 use Rattle.unify_clusters.proofs.unify_root.Goals as goal
 
-ruleset mine = (root_none, root-cluster, from_zero, rules)
+pub returns-then-gathered-gt1-clause-filled : goal.returns-then-gathered-gt1-clause-filled
+returns-then-gathered-gt1-clause-filled c = root-filled (model_of c.args.image.now) c.gather-gathered.ensures c.if-gathered-gt1.true c.args.slots.now c.cluster.ensures.filled
 
-pub gather-c-requires : goal.gather-c-requires
-gather-c-requires c = (search rules, search rules, search stage-root, search rules)
+pub returns-then-gathered-gt1-clause-reported : goal.returns-then-gathered-gt1-clause-reported
+returns-then-gathered-gt1-clause-reported c = root-reported (model_of c.args.image.now) c.gather-gathered.ensures c.if-gathered-gt1.true c.args.slots.now c.cluster.ensures.reported
 
-pub returns-then-c-lt2 : goal.returns-then-c-lt2
-returns-then-c-lt2 c = search mine
+pub returns-else-gathered-gt1-clause-filled : goal.returns-else-gathered-gt1-clause-filled
+returns-else-gathered-gt1-clause-filled c = no-root-filled (model_of c.args.image.now) c.gather-gathered.ensures c.if-gathered-gt1.false c.args.slots.now
 
-pub cluster-requires : goal.cluster-requires
-cluster-requires c = (search (stage-ready, from_zero), search rules, search rules)
-
-pub returns : goal.returns
-returns c = search mine
+pub returns-else-gathered-gt1-clause-reported : goal.returns-else-gathered-gt1-clause-reported
+returns-else-gathered-gt1-clause-reported c = no-root-reported (model_of c.args.image.now) c.gather-gathered.ensures c.if-gathered-gt1.false c.args.slots.now

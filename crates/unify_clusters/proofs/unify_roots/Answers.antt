@@ -1,36 +1,22 @@
 -- `unify_clusters::unify_roots` meets its contract.
-use borrow.Author.Rules.{rules}
-use Rattle.unify_clusters.proofs.Roots.{roots-start, roots-stage, roots-inside, roots-id, roots-fit, roots-turn, roots-done, roots-adds, roots-countable, roots-report, roots-table, roots-members}
+use Rattle.std.proofs.Common.{arith}
+use Rattle.oce_model.specs.Model.{model_of}
+use Rattle.unify_clusters.proofs.Roots.{roots-start, roots-count, roots-room, roots-next, roots-filled, roots-reported}
 use Rattle.unify_clusters.proofs.unify_roots.Goals as goal
 
-ruleset mine = (roots-start, roots-stage, roots-inside, roots-fit, roots-turn, roots-done, roots-report, roots-table, roots-members, rules)
-
 pub loop-r-init : goal.loop-r-init
-loop-r-init c = search mine
+loop-r-init c = roots-start (model_of c.args.image.now) c.requires.2
 
-pub overflow_cast-r : goal.overflow_cast-r
-overflow_cast-r c = search (roots-id, rules)
-
-pub unify_root-c-requires : goal.unify_root-c-requires
-unify_root-c-requires c = (search roots-stage, search roots-inside, search roots-countable)
-
-pub overflow_add-r : goal.overflow_add-r
-overflow_add-r c = search mine
-
-pub loop-r-smaller : goal.loop-r-smaller
-loop-r-smaller c = search mine
+pub unify_root-requires : goal.unify_root-requires
+unify_root-requires c =
+    let m = model_of c.args.image.now in
+    (c.requires.0, omega arith, roots-count m c.loop-r.invariant, omega arith, roots-room m c.loop-r.invariant c.requires.3 (omega arith) (omega arith))
 
 pub loop-r-preserved : goal.loop-r-preserved
-loop-r-preserved c = search mine
+loop-r-preserved c = roots-next (model_of c.args.image.now) c.loop-r.invariant c.unify_root.ensures.filled c.unify_root.ensures.reported
 
-pub shape_of-table : goal.shape_of-table
-shape_of-table c = search mine
+pub returns-clause-filled : goal.returns-clause-filled
+returns-clause-filled c = roots-filled (model_of c.args.image.now) c.loop-r.invariant (omega arith)
 
-pub shape_of-members : goal.shape_of-members
-shape_of-members c = search mine
-
-pub shape_of-report : goal.shape_of-report
-shape_of-report c = search mine
-
-pub returns : goal.returns
-returns c = (search mine, search roots-stage, search (roots-adds, rules))
+pub returns-clause-reported : goal.returns-clause-reported
+returns-clause-reported c = roots-reported (model_of c.args.image.now) c.loop-r.invariant (omega arith)
