@@ -27,7 +27,7 @@ use Rattle.image_accept.specs.Layout.{Laid, section_of, layout_of}
 use Rattle.image_accept.specs.declared.Layout.{Layout}
 use Rattle.image_records.proofs.Laws.{connectors-counted}
 use Rattle.unify.specs.Slots.{Slots, slot}
-use Rattle.unify_slots.specs.Table.{slot_count}
+use Rattle.unify_slots.specs.Slots.{slot_count}
 use Rattle.outcome.specs.Filled.{with_slots}
 use Rattle.moved.proofs.Regions.{offset, connector_slots, output_slots, offset-connector, offset-out, slots-fit, slots_apart}
 use Rattle.moved.proofs.Refilled.{with_slots-is}

@@ -6,7 +6,7 @@ ghost use Rattle.base.specs.Buffers.{patch, starts_with};
 ghost use Rattle.oce_model.specs.Format.{attrs_length, longest_image};
 ghost use Rattle.oce_model.specs.Attributes.{attrs_bytes};
 ghost use Rattle.oce_model.specs.Model.{model_of};
-ghost use Rattle.unify_slots.specs.Table.{slot_count};
+ghost use Rattle.unify_slots.specs.Slots.{slot_count};
 ghost use Rattle.outcome.specs.Filled.{slot_offsets, with_slots};
 ghost use Rattle.filling.specs.Parts.{lead_bytes, text_bytes, end_bytes};
 

@@ -1,6 +1,6 @@
 -- The report of a model from the runs that make it.
 use Prim.Native.Nat.{ℕ, zero, suc, ◌+◌, ◌*◌, ◌<◌, ◌≤◌}
-use native.Mathlib.Nat.{zero-add}
+use native.Mathlib.Nat.{zero-add, mul-le-mul_left}
 use native.Mathlib.Decide.{ℕ_discrete}
 use native.Mathlib.Omega.{arith}
 use mathlib.Core.Path.{◌≡◌, refl, sym, ap, ◌∙◌}
@@ -8,26 +8,24 @@ use mathlib.Core.List.{List, ◌++◌, append_assoc}
 use lib.Dec.{ltb}
 use lib.ListN.{length, get_or, replicate, length-replicate}
 use borrow.Author.Tests.{lt-ltb, le-ltb}
-use Rattle.oce_model.specs.Format.{most_external_inputs}
-use Rattle.oce_model.specs.Model.{Model, model_of}
+use Rattle.oce_model.specs.Format.{most_connectors, most_external_inputs}
+use Rattle.oce_model.specs.Model.{Model, connector_count}
 use Rattle.oce_diag.specs.Diagnostics.{has_error, errors}
 use Rattle.oce_diag.specs.declared.Diagnostic.{Diagnostic}
 use Rattle.oce_diag.specs.declared.Counted.{Counted}
-use Rattle.oce_diag.specs.Putting.{Adds, Put}
+use Rattle.oce_diag.specs.Putting.{Put}
+use Rattle.oce_diag.specs.Reporting.{Puts}
+use Rattle.oce_diag.specs.declared.report.Report.{Report}
 use Rattle.oce_diag.proofs.Diagnostics.{no-errors, some-error}
 use Rattle.oce_diag.proofs.Putting.{put_then}
-use Rattle.image_accept.specs.Layout.{Laid}
-use Rattle.image_accept.specs.declared.Layout.{Layout}
 use Rattle.base.specs.Lists.{any, keep}
 use Rattle.structural_externals.specs.Columns.{half, Lists}
-use Rattle.image_records.proofs.Laws.{connectors-few, connectors-counted, externals-few, externals-counted}
-use Rattle.unify_slots.specs.Table.{slot_count}
-use Rattle.structural.specs.Structural.{rule1, rule2, rule3, rule4}
-use Rattle.crossed_bounds.specs.CrossedBounds.{rule5}
+use Rattle.unify.specs.Slots.{Slots}
+use Rattle.unify_cluster.specs.Clusters.{most_cluster_faults}
 use Rattle.unify.specs.Unify.{rule6}
 use Rattle.unify_clusters.specs.Unified.{Unified}
 use Rattle.outcome.specs.Report.{report, rules_before6}
-use Rattle.rules.specs.Ran.{few_records, none, most_before6, Ran}
+use Rattle.rules.specs.Ran.{few_records, none, most_before6, Roomy, Ran}
 
 -- a list holds an error exactly if errors are counted in it
 counted-errors : (ds : List Diagnostic) → ltb 0 (errors ds) ≡ has_error ds
@@ -45,8 +43,16 @@ ran-put m {b} {b'} {b''} {c'} {c''} p q =
     let g : ltb 0 c'.errors ≡ has_error (rules_before6 m) = ap (ltb 0) f ∙ counted-errors (rules_before6 m) in
     put_then p (rw g at q)
 
-pub ran : {m : Model} {σ : Slots} {b b' : List ℕ} {r r' : Report} → Puts most_before6 (rules_before6 m) r r' → r.bytes.now ≡ b → r.counted ≡ none → Unified m σ r' b' → Ran m σ b b'
-ran = ?
+-- rules 1 to 5, and then rule 6
+pub ran : {m : Model} {σ : Slots} {r₀ r r' : Report} → connector_count m ≤ most_connectors → r₀.counted ≡ none → Puts most_before6 (rules_before6 m) r₀ r → Unified m σ r r'
+    → Ran m σ r₀.bytes.now r'.bytes.now r'.counted
+ran {m} h e p u =
+    let first : Put _ none (rules_before6 m) _ _ = rw e at p.put in
+    record {
+      slots = u.slots;
+      put = ran-put m first u.puts.put;
+      few = omega (arith, p.few, u.puts.few, ap (λ (c : Counted). c.errors + c.warnings) e, mul-le-mul_left {m = connector_count m} {n = most_connectors} (most_cluster_faults + 1) h);
+    }
 
 -- ---- what the arrays hold at first
 
@@ -72,10 +78,10 @@ pub nothing-in : {m : Model} {c e : ℕ} → Roomy m c e → Lists m 0 0 (replic
 nothing-in {m} {c} {e} h = nothing-listed m e (half e) refl h.halves h.externals
 
 -- columns of two sizes
-pub roomy-few : {m : Model} → connector_count m ≤ few_records → length m.external_inputs ≤ few_records → Roomy m few_records (2 * few_records + 1)
+pub roomy-few : {m : Model} → connector_count m ≤ most_connectors → connector_count m ≤ few_records → length m.external_inputs ≤ few_records → Roomy m few_records (2 * few_records + 1)
 unfolding half
-roomy-few h k = record { connectors = h; externals = k; halves = omega arith }
+roomy-few f h k = record { few = f; connectors = h; externals = k; halves = omega arith }
 
 pub roomy-most : {m : Model} → connector_count m ≤ most_connectors → length m.external_inputs ≤ most_external_inputs → Roomy m most_connectors (2 * most_external_inputs + 1)
 unfolding half
-roomy-most h k = record { connectors = h; externals = k; halves = omega arith }
+roomy-most h k = record { few = h; connectors = h; externals = k; halves = omega arith }

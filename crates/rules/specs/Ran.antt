@@ -20,6 +20,7 @@ few_records = 192
 
 -- columns of c entries for in-degrees and of e for external ids have room for a model
 pub record Roomy (m : Model) (c e : ℕ) : Type 0 where
+  pub few : connector_count m ≤ most_connectors
   pub connectors : connector_count m ≤ c
   pub externals : length m.external_inputs ≤ half e
   pub halves : half e + half e < e
