@@ -1,165 +1,89 @@
 // Rule 5, `check_crossed_bounds`: each record's own range, and then the combined domains.
 #![tactic(auto)]
 
-ghost use Rattle.std.specs.Prelude.{◌+◌, ◌<◌, ◌≤◌};
-ghost use Rattle.base.specs.Lists.{each, only};
-ghost use Rattle.oce_model.specs.Format.{text_tag, most_connectors, most_boundary_inputs, most_boundary_outputs};
-ghost use Rattle.oce_model.specs.Model.{model_of};
-ghost use Rattle.oce_diag.specs.Diagnostics.{error};
-ghost use Rattle.oce_diag.specs.declared.DiagCode.TheVariants.{CrossedBounds};
-ghost use Rattle.oce_diag.specs.Putting.{Put, Countable, Adds};
-ghost use Rattle.image_accept.specs.Layout.{Laid, Tabled};
+ghost use Rattle.std.specs.Prelude.{◌<◌};
+ghost use Rattle.oce_model.specs.Model.{model_of, connector_count, boundary_input_count, boundary_output_count};
+ghost use Rattle.oce_diag.specs.Reporting.{Room, Puts};
 ghost use Rattle.structural_externals.specs.Columns.{Listed};
-ghost use Rattle.crossed_bounds.specs.CrossedBounds.{connector_crossed, input_crossed, output_crossed, rule5};
+ghost use Rattle.crossed_bounds.specs.CrossedBounds.{crossed_faults, connector_crossed, input_crossed, output_crossed, rule5};
 ghost use Rattle.crossed_records.specs.Most.{most_crossed};
 
 use crossed_domains::check_combined_input_domains;
 use crossed_ranges::{is_crossed, range_of};
-use image_accept::Layout;
-use image_records::{
-    boundary_input_attrs, boundary_input_iri, boundary_output, boundary_output_attrs, connector,
-    connector_attrs,
-};
-use oce_diag::{Counted, DiagCode, Subject, error, put_if, subject_of};
-use oce_model::ConnectorId;
+use image_records::Image;
+use oce_diag::{DiagCode, Report, Subject, error, subject_of};
+use oce_model::{Attrs, ConnectorId};
 
-// Reports a range that is crossed: the Rust's `report`.
-fn put_crossed(
-    report: &mut [u8],
-    counted: Counted,
-    bad: bool,
-    detail: u8,
-    subject: Subject,
-    i: u32,
-) -> Counted
-    requires { Countable 1 counted }
-    ensures { Put report.old counted (only bad (error CrossedBounds 5 detail subject i)) report.new result × Adds 1 counted result }
+const RULE: u8 = 5;
+
+const CONNECTOR_DETAIL: u8 = 1;
+
+const INPUT_DETAIL: u8 = 2;
+
+const OUTPUT_DETAIL: u8 = 3;
+
+// ---- one record
+
+// Reports it, if the range of its attributes is crossed: the Rust's `report`.
+#[tactic(auto, unfolding(crossed_bounds::specs::CrossedBounds::crossed_faults))]
+fn put_crossed(image: &Image, a: &Attrs, detail: u8, subject: Subject, i: u32, report: &mut Report)
+    requires { Room 1 report.old }
+    ensures { Puts 1 (crossed_faults (model_of image.now) detail subject i a.now) report.old report.new }
 {
-    let d = error(DiagCode::CrossedBounds, 5, detail, subject, i);
-    put_if(report, counted, bad, d)
+    let d = error(DiagCode::CrossedBounds, RULE, detail, subject, i);
+    report.put_if(is_crossed(range_of(image, a)), d);
 }
 
-// ---- detail 1
-
-// Reports connector i, if the range of its attributes is crossed.
-pub fn connector_crossed(
-    image: &[u8],
-    layout: Layout,
-    i: ConnectorId,
-    report: &mut [u8],
-    counted: Counted,
-) -> Counted
-    requires { Laid image.now layout × (i.0 < layout.connectors.count) × Countable 1 counted }
-    ensures { Put report.old counted (connector_crossed (model_of image.now) i.0) report.new result × Adds 1 counted result }
+// Connector i.
+pub fn connector_crossed(image: &Image, i: ConnectorId, report: &mut Report)
+    requires { (i.0 < connector_count (model_of image.now)) × Room 1 report.old }
+    ensures { Puts 1 (connector_crossed (model_of image.now) i.0) report.old report.new }
 {
-    let c = connector(image, layout, i);
+    let c = image.connector(i);
+    let a = image.connector_attrs(i);
     let subject = subject_of(c.iri, c.id);
-    let at = connector_attrs(image, layout, i);
-    let bad = is_crossed(range_of(image, layout, at));
-    put_crossed(report, counted, bad, 1, subject, i.0)
+    put_crossed(image, &a, CONNECTOR_DETAIL, subject, i.0, report);
 }
 
-fn connectors_crossed(image: &[u8], layout: Layout, report: &mut [u8], counted: Counted) -> Counted
-    requires { Laid image.now layout × Countable most_connectors counted }
-    ensures { Put report.old counted (each layout.connectors.count (connector_crossed (model_of image.now))) report.new result × Adds most_connectors counted result }
+// Boundary input i.
+pub fn input_crossed(image: &Image, i: usize, report: &mut Report)
+    requires { (i < boundary_input_count (model_of image.now)) × Room 1 report.old }
+    ensures { Puts 1 (input_crossed (model_of image.now) i) report.old report.new }
 {
-    let connectors = layout.connectors;
-    let n = connectors.count;
-    let mut k = counted;
-    let mut i = 0;
-    while i < n {
-        k = connector_crossed(image, layout, ConnectorId(i as u32), report, k);
-        i += 1;
-    }
-    k
-}
-
-// ---- detail 2
-
-// The same of boundary input i.
-pub fn input_crossed(
-    image: &[u8],
-    layout: Layout,
-    i: usize,
-    report: &mut [u8],
-    counted: Counted,
-) -> Counted
-    requires { Laid image.now layout × (i < layout.inputs.count) × Countable 1 counted }
-    ensures { Put report.old counted (input_crossed (model_of image.now) i) report.new result × Adds 1 counted result }
-{
-    let iri = boundary_input_iri(image, layout, i);
+    prove!(i < image.boundary_input_count());
+    let iri = image.boundary_input_iri(i);
+    let a = image.boundary_input_attrs(i);
     let subject = Subject::Text(iri as u32);
-    let at = boundary_input_attrs(image, layout, i);
-    let bad = is_crossed(range_of(image, layout, at));
-    put_crossed(report, counted, bad, 2, subject, i as u32)
+    put_crossed(image, &a, INPUT_DETAIL, subject, i as u32, report);
 }
 
-fn inputs_crossed(image: &[u8], layout: Layout, report: &mut [u8], counted: Counted) -> Counted
-    requires { Laid image.now layout × Countable most_boundary_inputs counted }
-    ensures { Put report.old counted (each layout.inputs.count (input_crossed (model_of image.now))) report.new result × Adds most_boundary_inputs counted result }
+// Boundary output i.
+pub fn output_crossed(image: &Image, i: usize, report: &mut Report)
+    requires { (i < boundary_output_count (model_of image.now)) × Room 1 report.old }
+    ensures { Puts 1 (output_crossed (model_of image.now) i) report.old report.new }
 {
-    let inputs = layout.inputs;
-    let n = inputs.count;
-    let mut k = counted;
-    let mut i = 0;
-    while i < n {
-        k = input_crossed(image, layout, i, report, k);
-        i += 1;
-    }
-    k
-}
-
-// ---- detail 3
-
-// The same of boundary output i.
-pub fn output_crossed(
-    image: &[u8],
-    layout: Layout,
-    i: usize,
-    report: &mut [u8],
-    counted: Counted,
-) -> Counted
-    requires { Laid image.now layout × (i < layout.outputs.count) × Countable 1 counted }
-    ensures { Put report.old counted (output_crossed (model_of image.now) i) report.new result × Adds 1 counted result }
-{
-    let o = boundary_output(image, layout, i);
+    prove!(i < image.boundary_output_count());
+    let o = image.boundary_output(i);
+    let a = image.boundary_output_attrs(i);
     let subject = Subject::Text(o.iri as u32);
-    let at = boundary_output_attrs(image, layout, i);
-    let bad = is_crossed(range_of(image, layout, at));
-    put_crossed(report, counted, bad, 3, subject, i as u32)
-}
-
-fn outputs_crossed(image: &[u8], layout: Layout, report: &mut [u8], counted: Counted) -> Counted
-    requires { Laid image.now layout × Countable most_boundary_outputs counted }
-    ensures { Put report.old counted (each layout.outputs.count (output_crossed (model_of image.now))) report.new result × Adds most_boundary_outputs counted result }
-{
-    let outputs = layout.outputs;
-    let n = outputs.count;
-    let mut k = counted;
-    let mut i = 0;
-    while i < n {
-        k = output_crossed(image, layout, i, report, k);
-        i += 1;
-    }
-    k
+    put_crossed(image, &a, OUTPUT_DETAIL, subject, i as u32, report);
 }
 
 // ---- the whole rule
 
-// texts and externals are the columns that `accept` and `list_externals` fill.
-pub fn check_crossed_bounds<'a>(
-    image: &'a [u8],
-    layout: Layout,
-    texts: &'a [usize],
-    externals: &'a [u32],
-    report: &mut [u8],
-    counted: Counted,
-) -> Counted
-    requires { Laid image.now layout × Tabled text_tag image.now texts.now × Listed (model_of image.now) externals.now × Countable most_crossed counted }
-    ensures { Put report.old counted (rule5 (model_of image.now)) report.new result × Adds most_crossed counted result }
+// externals is the column that `list_externals` fills.
+pub fn check_crossed_bounds(image: &Image, externals: &[u32], report: &mut Report)
+    requires { Listed (model_of image.now) externals.now × Room most_crossed report.old }
+    ensures { Puts most_crossed (rule5 (model_of image.now)) report.old report.new }
 {
-    let a = connectors_crossed(image, layout, report, counted);
-    let b = inputs_crossed(image, layout, report, a);
-    let c = outputs_crossed(image, layout, report, b);
-    check_combined_input_domains(image, layout, texts, externals, report, c)
+    'connectors: for i in 0..image.connector_count() {
+        connector_crossed(image, ConnectorId(i as u32), report);
+    }
+    'inputs: for i in 0..image.boundary_input_count() {
+        input_crossed(image, i, report);
+    }
+    'outputs: for i in 0..image.boundary_output_count() {
+        output_crossed(image, i, report);
+    }
+    check_combined_input_domains(image, externals, report);
 }

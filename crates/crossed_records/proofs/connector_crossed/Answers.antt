@@ -1,7 +1,6 @@
--- `crossed_records::connector_crossed` meets its contract.
-use borrow.Author.Rules.{rules}
-use Rattle.crossed_records.proofs.Laws.{crossed-put, connector-put}
+-- A connector's own range.
+use Rattle.crossed_records.proofs.Laws.{connector-puts}
 use Rattle.crossed_records.proofs.connector_crossed.Goals as goal
 
 pub returns : goal.returns
-returns c = search (connector-put, crossed-put, rules)
+returns c = let front = c.connector-c.ensures in connector-puts _ _ c.put_crossed.ensures c.subject_of-subject.ensures front.0 c.connector_attrs-a.ensures

@@ -1,10 +1,6 @@
--- `crossed_records::input_crossed` meets its contract.
-use borrow.Author.Rules.{rules}
-use Rattle.crossed_records.proofs.Laws.{crossed-put, input-put, number_small, inputs-room}
+-- A boundary input's own range.
+use Rattle.crossed_records.proofs.Laws.{input-puts}
 use Rattle.crossed_records.proofs.input_crossed.Goals as goal
 
-pub overflow_cast-i : goal.overflow_cast-i
-overflow_cast-i c = search (number_small, inputs-room, rules)
-
 pub returns : goal.returns
-returns c = search (input-put, crossed-put, rules)
+returns c = let iri = c.boundary_input_iri-iri.ensures in input-puts _ _ c.put_crossed.ensures iri.0 c.boundary_input_attrs-a.ensures

@@ -1,10 +1,6 @@
--- `crossed_records::output_crossed` meets its contract.
-use borrow.Author.Rules.{rules}
-use Rattle.crossed_records.proofs.Laws.{crossed-put, output-put, number_small, outputs-room}
+-- A boundary output's own range.
+use Rattle.crossed_records.proofs.Laws.{output-puts}
 use Rattle.crossed_records.proofs.output_crossed.Goals as goal
 
-pub overflow_cast-i : goal.overflow_cast-i
-overflow_cast-i c = search (number_small, outputs-room, rules)
-
 pub returns : goal.returns
-returns c = search (output-put, crossed-put, rules)
+returns c = let front = c.boundary_output-o.ensures in output-puts _ _ c.put_crossed.ensures front.0 c.boundary_output_attrs-a.ensures
