@@ -44,9 +44,9 @@ ran-put m {b} {b'} {b''} {c'} {c''} p q =
     put_then p (rw g at q)
 
 -- rules 1 to 5, and then rule 6
-pub ran : {m : Model} {σ : Slots} {r₀ r r' : Report} → connector_count m ≤ most_connectors → r₀.counted ≡ none → Puts most_before6 (rules_before6 m) r₀ r → Unified m σ r r'
+pub ran : (m : Model) {σ : Slots} {r₀ r r' : Report} → connector_count m ≤ most_connectors → r₀.counted ≡ none → Puts most_before6 (rules_before6 m) r₀ r → Unified m σ r r'
     → Ran m σ r₀.bytes.now r'.bytes.now r'.counted
-ran {m} h e p u =
+ran m h e p u =
     let first : Put _ none (rules_before6 m) _ _ = rw e at p.put in
     record {
       slots = u.slots;
@@ -74,14 +74,14 @@ nothing-listed m c n e room few =
       rest = refl;
     }
 
-pub nothing-in : {m : Model} {c e : ℕ} → Roomy m c e → Lists m 0 0 (replicate e 0)
-nothing-in {m} {c} {e} h = nothing-listed m e (half e) refl h.halves h.externals
+pub nothing-in : (m : Model) {c e : ℕ} → Roomy m c e → Lists m 0 0 (replicate e 0)
+nothing-in m {c} {e} h = nothing-listed m e (half e) refl h.halves h.externals
 
 -- columns of two sizes
-pub roomy-few : {m : Model} → connector_count m ≤ most_connectors → connector_count m ≤ few_records → length m.external_inputs ≤ few_records → Roomy m few_records (2 * few_records + 1)
+pub roomy-few : (m : Model) → connector_count m ≤ most_connectors → connector_count m ≤ few_records → length m.external_inputs ≤ few_records → Roomy m few_records (2 * few_records + 1)
 unfolding half
-roomy-few f h k = record { few = f; connectors = h; externals = k; halves = omega arith }
+roomy-few m f h k = record { few = f; connectors = h; externals = k; halves = omega arith; short = (omega arith, omega arith) }
 
-pub roomy-most : {m : Model} → connector_count m ≤ most_connectors → length m.external_inputs ≤ most_external_inputs → Roomy m most_connectors (2 * most_external_inputs + 1)
+pub roomy-most : (m : Model) → connector_count m ≤ most_connectors → length m.external_inputs ≤ most_external_inputs → Roomy m most_connectors (2 * most_external_inputs + 1)
 unfolding half
-roomy-most h k = record { few = h; connectors = h; externals = k; halves = omega arith }
+roomy-most m h k = record { few = h; connectors = h; externals = k; halves = omega arith; short = (omega arith, omega arith) }

@@ -1,6 +1,6 @@
 -- What a run over all rules gives.
 use Rattle.std.specs.Prelude.{ℕ, ◌+◌, ◌*◌, ◌<◌, ◌≤◌, ◌≡◌, List, length}
-use Rattle.oce_model.specs.Format.{most_connectors, most_connections, most_boundary_outputs}
+use Rattle.oce_model.specs.Format.{most_connectors, most_external_inputs, most_connections, most_boundary_outputs}
 use Rattle.oce_model.specs.Model.{Model, connector_count}
 use Rattle.oce_diag.specs.declared.Counted.{Counted}
 use Rattle.oce_diag.specs.Putting.{total, Put}
@@ -24,6 +24,7 @@ pub record Roomy (m : Model) (c e : ℕ) : Type 0 where
   pub connectors : connector_count m ≤ c
   pub externals : length m.external_inputs ≤ half e
   pub halves : half e + half e < e
+  pub short : (c ≤ most_connectors) × (e ≤ 2 * most_external_inputs + 1)
 
 -- nothing counted
 abbrev pub none : Counted

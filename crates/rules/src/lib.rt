@@ -2,13 +2,14 @@
 #![tactic(auto)]
 
 ghost use Rattle.std.specs.Prelude.{◌≡◌, ◌≤◌, length};
-ghost use Rattle.oce_model.specs.Model.{model_of};
+ghost use Rattle.oce_model.specs.Model.{model_of, connector_count};
+ghost use Rattle.oce_model.specs.Format.{most_connectors};
 ghost use Rattle.oce_diag.specs.Reporting.{Room, Puts};
 ghost use Rattle.structural_degrees.specs.Columns.{Degrees};
 ghost use Rattle.structural_externals.specs.Columns.{Listed};
 ghost use Rattle.unify_slots.specs.Slots.{slot_count};
 ghost use Rattle.outcome.specs.Report.{rules_before6};
-ghost use Rattle.rules.specs.Ran.{Roomy, Ran, most_before6};
+ghost use Rattle.rules.specs.Ran.{none, Roomy, Ran, most_before6};
 
 use crossed_records::check_crossed_bounds;
 use image_records::Image;
@@ -39,7 +40,25 @@ fn rules_before_6(image: &Image, degrees: &[u32], externals: &[u32], report: &mu
     check_crossed_bounds(image, externals, report);
 }
 
-// All rules, over columns of in-degrees and of external ids with so many entries.
+// All rules, over a report with nothing counted.
+fn all_rules(
+    image: &Image,
+    degrees: &[u32],
+    externals: &[u32],
+    slots: &mut [Attrs],
+    report: &mut Report,
+)
+    requires columns { Degrees (model_of image.now) degrees.now × Listed (model_of image.now) externals.now }
+    requires slots { length slots.old ≡ slot_count (model_of image.now) }
+    requires start { (report.old.counted ≡ none) × (connector_count (model_of image.now) ≤ most_connectors) }
+    ensures ran { Ran (model_of image.now) slots.new report.old.bytes.now report.new.bytes.now report.new.counted }
+    ensures same { report.new.bytes.ghost_name ≡ report.old.bytes.ghost_name }
+{
+    rules_before_6(image, degrees, externals, report);
+    unify_clusters(image, degrees, slots, report);
+}
+
+// The same over columns of in-degrees and of external ids with so many entries.
 fn run_in<const CONNECTORS: usize, const EXTERNALS: usize>(
     image: &Image,
     slots: &mut [Attrs],
@@ -60,8 +79,7 @@ fn run_in<const CONNECTORS: usize, const EXTERNALS: usize>(
             warnings: 0,
         },
     };
-    rules_before_6(image, &degrees, &externals, &mut report);
-    unify_clusters(image, &degrees, slots, &mut report);
+    all_rules(image, &degrees, &externals, slots, &mut report);
     let Report { bytes: _, counted } = report;
     counted
 }
@@ -71,7 +89,9 @@ pub fn run(image: &Image, slots: &mut [Attrs], report: &mut [u8]) -> Counted
     requires { length slots.old ≡ slot_count (model_of image.now) }
     ensures { Ran (model_of image.now) slots.new report.old report.new result }
 {
-    if image.connector_count() <= FEW_RECORDS && image.external_input_count() <= FEW_RECORDS {
+    let connectors = image.connector_count();
+    let externals = image.external_input_count();
+    if connectors <= FEW_RECORDS && externals <= FEW_RECORDS {
         run_in::<FEW_RECORDS, FEW_EXTERNALS_COLUMN>(image, slots, report)
     } else {
         run_in::<MOST_CONNECTORS, EXTERNALS_COLUMN>(image, slots, report)
