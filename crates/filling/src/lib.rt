@@ -1,8 +1,9 @@
 // The filled image (FORMAT 17): the attributes of slots, written over those of the image.
 #![tactic(auto)]
 
-ghost use Rattle.std.specs.Prelude.{◌≡◌, ◌+◌, ◌*◌, ◌≤◌, ◌<◌, length, get_or};
+ghost use Rattle.std.specs.Prelude.{◌≡◌, ℕ, ◌+◌, ◌*◌, ◌≤◌, ◌<◌, length, get_or, slice_index};
 ghost use Rattle.base.specs.Buffers.{patch, starts_with};
+ghost use Rattle.numbers.specs.Bytes.{byte_range};
 ghost use Rattle.oce_model.specs.Format.{attrs_length, longest_image};
 ghost use Rattle.oce_model.specs.Attributes.{attrs_bytes};
 ghost use Rattle.oce_model.specs.Model.{model_of};
@@ -88,10 +89,11 @@ pub fn slot_offset(image: &Image, j: usize) -> usize
     }
 }
 
-// The image alone: what a report with an error leaves.
+// The image alone: what a report with an error leaves. `bytes` says what the slice's type says of them.
 pub fn copy_image(image: &[u8], filled: &mut [u8])
     requires { length image.now ≤ length filled.old }
-    ensures { filled.new ≡ starts_with image.now filled.old }
+    ensures filled { filled.new ≡ starts_with image.now filled.old }
+    ensures bytes { (i : ℕ) → slice_index image.now i < byte_range }
 {
     copy_at(filled, 0, image);
 }

@@ -61,11 +61,10 @@ module _ {s b b' : List ℕ} {σ : Slots} {c : Counted} (q : Ran (model_of s) σ
 
 module _ {s : List ℕ} {σ : Slots} {c : Counted} (t : Tallied s σ c) where
   -- the report is copied
-  pub early-copied : {e : List ℕ} (r : List ℕ) {r' : List ℕ} (k : ℕ) → Early s e → k ≡ diagnostic_size * total c → k ≤ length e → r' ≡ patch r 0 (take (k - 0) e) → r' ≡ starts_with (report_bytes (report_of s)) r
+  pub early-copied : {e : List ℕ} (r : List ℕ) {r' : List ℕ} (k : ℕ) → Early s e → k ≡ diagnostic_size * total c → k ≤ length e → r' ≡ patch r 0 (take k e) → r' ≡ starts_with (report_bytes (report_of s)) r
   early-copied {e} r k h p l q =
       let n : k ≡ report_size (report_of s) = p ∙ ap (λ x. diagnostic_size * x) (omega (arith, t.errors, t.warnings, errors-warnings (report_of s))) in
-      let z : k - 0 ≡ report_size (report_of s) = omega arith in
-      let b : take (k - 0) e ≡ report_bytes (report_of s) = rw z (h.bytes (omega arith)) in
+      let b : take k e ≡ report_bytes (report_of s) = rw n (h.bytes (omega arith)) in
       q ∙ rw b (sym (starts_with-patch (report_bytes (report_of s)) r))
 
   -- with an error the image stays as it is
@@ -82,8 +81,8 @@ module _ {s : List ℕ} {σ : Slots} {c : Counted} (t : Tallied s σ c) where
 
 -- ---- sizes
 
-pub image-small : {s : List ℕ} → refusal s ≡ None → Fits w32 (length s)
-image-small {s} h = record { fits = omega (arith, (accepted s h).short) }
+pub image-small : (s : List ℕ) → refusal s ≡ None → Fits w32 (length s)
+image-small s h = record { fits = omega (arith, (accepted s h).short) }
 
 -- ---- the answer
 

@@ -1,9 +1,10 @@
 // The checking call.
 #![tactic(auto)]
 
-ghost use Rattle.std.specs.Prelude.{◌≡◌, ◌*◌, ◌≤◌, length};
+ghost use Rattle.std.specs.Prelude.{◌≡◌, ◌*◌, ◌≤◌, length, None};
 ghost use Rattle.base.specs.Buffers.{starts_with};
 ghost use Rattle.oce_model.specs.Model.{model_of};
+ghost use Rattle.oce_model.specs.Refusals.{refusal};
 ghost use Rattle.oce_diag.specs.Encoding.{diagnostic_size, report_bytes};
 ghost use Rattle.oce_diag.specs.Putting.{total};
 ghost use Rattle.unify_slots.specs.Slots.{slot_count};
@@ -71,7 +72,7 @@ fn leave_report(
 
 // An accepted image for which the filled buffer has room, over its slots: refusal 10, or both buffers.
 fn check_over(image: &Image, slots: &mut [Attrs], filled: &mut [u8], report: &mut [u8]) -> Answer
-    requires { (length slots.old ≡ slot_count (model_of image.now)) × (length image.now ≤ length filled.old) }
+    requires { (refusal image.now ≡ None) × (length slots.old ≡ slot_count (model_of image.now)) × (length image.now ≤ length filled.old) }
     ensures { Answered image.now filled.old report.old result filled.new report.new }
 {
     let mut early = [0u8; EARLY];
@@ -93,7 +94,7 @@ fn check_over(image: &Image, slots: &mut [Attrs], filled: &mut [u8], report: &mu
 
 // The same with a table for so many slots.
 fn check_in<const SLOTS: usize>(image: &Image, filled: &mut [u8], report: &mut [u8]) -> Answer
-    requires { (slot_count (model_of image.now) ≤ SLOTS) × (length image.now ≤ length filled.old) }
+    requires { (refusal image.now ≡ None) × (slot_count (model_of image.now) ≤ SLOTS) × (SLOTS ≤ MOST_SLOTS) × (length image.now ≤ length filled.old) }
     ensures { Answered image.now filled.old report.old result filled.new report.new }
 {
     let mut table = [NO_ATTRS; SLOTS];

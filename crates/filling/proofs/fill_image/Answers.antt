@@ -17,4 +17,4 @@ loop-j-preserved c = fills-turn c.loop-j.invariant _ c.store_slot.ensures c.slot
 pub returns : goal.returns
 returns c =
     let e : c.loop-j.j ≡ length c.args.slots.now = omega arith in
-    fills-done c.loop-j.invariant _ (rw c.bytes.ensures.bytes at c.copy_image.ensures) e
+    fills-done c.loop-j.invariant _ (rw c.bytes.ensures.bytes at c.copy_image.ensures.filled) e
