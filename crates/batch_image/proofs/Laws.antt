@@ -1,10 +1,13 @@
 -- One image of a batch: its summary, the bytes it needs, and its part of the output.
-use Prim.Native.Nat.{ℕ, ◌+◌, ◌-◌, ◌*◌, ◌≤◌, ◌<◌}
+use Prim.Native.Nat.{ℕ, ◌+◌, ◌-◌, ◌*◌, ◌%◌, ◌≤◌, ◌<◌}
+use native.Mathlib.Nat.{div-div-eq-div-mul}
 use native.Mathlib.Omega.{arith}
 use mathlib.Core.Path.{◌≡◌, refl, sym, ap, ◌∙◌}
 use mathlib.Core.List.{List, [], ◌∷◌, ◌++◌, append-nil}
 use Rattle.std.specs.Prelude.{Option, Some, None}
-use lib.ListN.{length}
+use lib.ListN.{length, get_or}
+use Rattle.std.specs.Int.{w32, to_le_bytes}
+use Rattle.numbers.specs.Bytes.{le_bytes}
 use borrow.Rule.Slice.PartMut.{put_mid, mid_of}
 use Rattle.base.specs.Buffers.{patch, starts_with}
 use Rattle.base.proofs.Buffers.{patch-reversed, starts_with-none, starts_with-patch, starts_with-length}
@@ -132,3 +135,14 @@ module _ {s : List ℕ} {r : Summary} (o : ℕ) (e : List ℕ) where
           let z : put_mid (o + summary_size) k e zs ≡ patch e (o + summary_size) (image_report s) =
           part-patched e (image_report s) (o + summary_size) k (w.bytes (part_room e (o + summary_size) k (length (image_report s)) m (omega arith))) m in
           p ∙ rw z (rw b at (patch-reversed e o (summary_bytes r) (image_report s) (omega (arith, b)))) ∙ ap (λ x. patch e o (summary_bytes x ++ image_report s)) v.is
+
+-- a summary's field from the parts that code puts side by side
+pub field-parts : (r : Summary) {os es ws : List ℕ} → os ≡ to_le_bytes w32 r.at → es ≡ to_le_bytes w32 r.errors → ws ≡ to_le_bytes w32 r.warnings
+    → 49 ∷ 13 ∷ 0 ∷ (r.refusal % 256) ∷ get_or os 0 0 ∷ get_or os 1 0 ∷ get_or os 2 0 ∷ get_or os 3 0 ∷ get_or es 0 0 ∷ get_or es 1 0 ∷ get_or es 2 0 ∷ get_or es 3 0
+        ∷ get_or ws 0 0 ∷ get_or ws 1 0 ∷ get_or ws 2 0 ∷ get_or ws 3 0 ∷ [] ≡ summary_bytes r
+unfolding summary_bytes le_bytes
+field-parts r x y z =
+    let a = r.at in
+    let e = r.errors in
+    let w = r.warnings in
+    rw (x, y, z, div-div-eq-div-mul a 256 256, div-div-eq-div-mul a 65536 256, div-div-eq-div-mul e 256 256, div-div-eq-div-mul e 65536 256, div-div-eq-div-mul w 256 256, div-div-eq-div-mul w 65536 256) refl

@@ -1,9 +1,10 @@
 // One image of a batch: what its check gives, and its part of the output.
 #![tactic(auto)]
 
-ghost use Rattle.std.specs.Prelude.{◌≡◌, ◌+◌, ◌≤◌, length};
+ghost use Rattle.std.specs.Prelude.{◌≡◌, ◌+◌, ◌≤◌, length, None};
 ghost use Rattle.base.specs.Buffers.{patch, starts_with};
 ghost use Rattle.oce_model.specs.Model.{model_of};
+ghost use Rattle.oce_model.specs.Refusals.{refusal};
 ghost use Rattle.unify_slots.specs.Slots.{slot_count};
 ghost use Rattle.batch.specs.Output.{summary_size, summary_bytes, image_output};
 ghost use Rattle.batch_image.specs.Summarized.{Counting, Summed, Summarized, size_of, most_bytes, Placed};
@@ -22,7 +23,7 @@ use unify_slots::{NO_ATTRS, slot_count};
 
 // Runs all rules over a report, with a table for so many slots.
 fn run_in<const SLOTS: usize>(image: &Image, report: &mut [u8]) -> Counted
-    requires { slot_count (model_of image.now) ≤ SLOTS }
+    requires { (refusal image.now ≡ None) × (slot_count (model_of image.now) ≤ SLOTS) × (SLOTS ≤ MOST_SLOTS) }
     ensures { Counting image.now report.old report.new result }
 {
     let mut table = [NO_ATTRS; SLOTS];
@@ -32,6 +33,7 @@ fn run_in<const SLOTS: usize>(image: &Image, report: &mut [u8]) -> Counted
 
 // An accepted image.
 fn run_accepted(image: &Image, report: &mut [u8]) -> Counted
+    requires { refusal image.now ≡ None }
     ensures { Counting image.now report.old report.new result }
 {
     if slot_count(image) <= FEW_SLOTS {
