@@ -63,6 +63,11 @@ pub wide-few : (n : ℕ) → length (wide_decimal n) ≤ most_wide_digits
 unfolding wide_decimal
 wide-few n = digits-most most_wide_digits n
 
+-- those of n / 10 are fewer
+pub wide-front : (n : ℕ) → n < 18446744073709551616 → length (wide_decimal (n / ten)) < most_wide_digits
+unfolding wide_decimal
+wide-front n f = rw (more-places 19 18 (n / ten) (omega arith) (omega arith)) (let h = digits-most 19 (n / ten) in omega arith)
+
 pub decimal-byte : (n : ℕ) → n < 256 → length (decimal n) ≤ most_byte_digits
 unfolding decimal
 decimal-byte n h = rw (more-places 9 2 n (omega arith) (omega arith)) (digits-most most_byte_digits n)

@@ -1,4 +1,3 @@
--- Decimal numbers, and bytes put one behind the other into a buffer.
+-- Decimal numbers.
 pub mod Decimal
-pub mod Appending
 pub mod Computed

@@ -1,90 +1,94 @@
-// Bytes and decimal numbers, put one behind the other into a lent buffer.
+// Bytes and decimal numbers, put behind those of a text that has room for them.
 #![tactic(auto)]
 
-ghost use Rattle.std.specs.Prelude.{[], ◌∷◌, ◌++◌, ◌+◌, ◌<◌, ◌≤◌, length};
-ghost use Rattle.decimal.specs.Decimal.{ten, digit, decimal, wide_decimal, most_digits, most_wide_digits, most_byte_digits};
-ghost use Rattle.decimal.specs.Appending.{Appended};
+ghost use Rattle.std.specs.Prelude.{ℕ, ◌≡◌, ◌+◌, ◌≤◌, List, ◌++◌, length};
+ghost use Rattle.arrayvec.specs.ArrayVec.{array_vec_len};
+ghost use Rattle.decimal.specs.Decimal.{decimal, wide_decimal, most_digits, most_wide_digits, most_byte_digits};
 
-use base::copy_at;
+use arrayvec::ArrayVec;
 
 const TEN: u64 = 10;
 
-// Puts src into out from index at on, and gives the index behind it.
-pub fn put_bytes(out: &mut [u8], at: usize, src: &[u8]) -> usize
-    requires { at + length src.now ≤ length out.old }
-    ensures { Appended out.old at src.now out.new result }
-{
-    copy_at(out, at, src);
-    at + src.len()
+// No number of 64 bits has more digits.
+const MOST_DIGITS: usize = 20;
+
+// A number: its digits, how many they are at most, and the number in 64 bits.
+pub trait Number {
+    ghost digits: { Self → List ℕ };
+
+    ghost most: { ℕ };
+
+    fn widened(self) -> u64
+        ensures same { wide_decimal result ≡ digits self }
+        ensures few { length (digits self) ≤ most };
 }
 
-fn put_digit(out: &mut [u8], at: usize, n: u64) -> usize
-    requires { (at < length out.old) × (n < ten) }
-    ensures { Appended out.old at (digit n ∷ []) out.new result }
-{
-    out[at] = b'0' + n as u8;
-    at + 1
-}
+impl Number for u8 {
+    ghost digits = { decimal };
 
-// The digits in front of the last one, then that.
-fn put_digits(out: &mut [u8], at: usize, n: u64) -> usize
-    requires { at + length (wide_decimal n) ≤ length out.old }
-    ensures { Appended out.old at (wide_decimal n) out.new result }
-{
-    if n < TEN {
-        return put_digit(out, at, n);
+    ghost most = { most_byte_digits };
+
+    fn widened(self) -> u64 {
+        u64::from(self)
     }
-    let k = put_digits(out, at, n / TEN);
-    put_digit(out, k, n % TEN)
 }
 
-// Puts a number into out.
-pub fn put_number(out: &mut [u8], at: usize, n: u32) -> usize
-    requires { at + most_digits ≤ length out.old }
-    ensures { Appended out.old at (decimal n) out.new result × (result ≤ at + most_digits) }
-{
-    put_digits(out, at, n as u64)
+impl Number for u32 {
+    ghost digits = { decimal };
+
+    ghost most = { most_digits };
+
+    fn widened(self) -> u64 {
+        u64::from(self)
+    }
 }
 
-// A number of 64 bits.
-fn put_wide(out: &mut [u8], at: usize, n: u64) -> usize
-    requires { at + most_wide_digits ≤ length out.old }
-    ensures { Appended out.old at (wide_decimal n) out.new result × (result ≤ at + most_wide_digits) }
-{
-    put_digits(out, at, n)
+impl Number for u64 {
+    ghost digits = { wide_decimal };
+
+    ghost most = { most_wide_digits };
+
+    fn widened(self) -> u64 {
+        self
+    }
 }
 
-// A byte as a number.
-fn put_byte_number(out: &mut [u8], at: usize, n: u8) -> usize
-    requires { at + most_byte_digits ≤ length out.old }
-    ensures { Appended out.old at (decimal n) out.new result × (result ≤ at + most_byte_digits) }
+// Puts src behind out's bytes.
+pub fn put_bytes<const CAP: usize>(out: &mut ArrayVec<u8, CAP>, src: &[u8])
+    requires { array_vec_len out.old + length src.now ≤ CAP }
+    ensures { out.new.items ≡ out.old.items ++ src.now }
 {
-    put_digits(out, at, n as u64)
+    let _ = out.try_extend_from_slice(src);
+}
+
+// A number's digits: those of a tenth of it, if that is one, then the last.
+fn digits_of(n: u64) -> ArrayVec<u8, MOST_DIGITS>
+    ensures { result.items ≡ wide_decimal n }
+{
+    let mut digits = if n < TEN {
+        ArrayVec::new()
+    } else {
+        digits_of(n / TEN)
+    };
+    digits.push(b'0' + (n % TEN) as u8);
+    digits
+}
+
+// Puts a number behind out's bytes.
+pub fn put_number<N: Number, const CAP: usize>(out: &mut ArrayVec<u8, CAP>, n: N)
+    requires { array_vec_len out.old + N.most ≤ CAP }
+    ensures items { out.new.items ≡ out.old.items ++ N.digits n }
+    ensures few { array_vec_len out.new ≤ array_vec_len out.old + N.most }
+{
+    put_bytes(out, &digits_of(n.widened()));
 }
 
 // A label, and a number behind it.
-pub fn put_labelled(out: &mut [u8], at: usize, label: &[u8], n: u32) -> usize
-    requires { at + length label.now + most_digits ≤ length out.old }
-    ensures { Appended out.old at (label.now ++ decimal n) out.new result × (result ≤ at + length label.now + most_digits) }
+pub fn put_labelled<N: Number, const CAP: usize>(out: &mut ArrayVec<u8, CAP>, label: &[u8], n: N)
+    requires { array_vec_len out.old + length label.now + N.most ≤ CAP }
+    ensures items { out.new.items ≡ out.old.items ++ (label.now ++ N.digits n) }
+    ensures few { array_vec_len out.new ≤ array_vec_len out.old + length label.now + N.most }
 {
-    let k = put_bytes(out, at, label);
-    put_number(out, k, n)
-}
-
-// A label, and a number of 64 bits behind it.
-pub fn put_labelled_wide(out: &mut [u8], at: usize, label: &[u8], n: u64) -> usize
-    requires { at + length label.now + most_wide_digits ≤ length out.old }
-    ensures { Appended out.old at (label.now ++ wide_decimal n) out.new result × (result ≤ at + length label.now + most_wide_digits) }
-{
-    let k = put_bytes(out, at, label);
-    put_wide(out, k, n)
-}
-
-// A label, and a byte as a number behind it.
-pub fn put_labelled_byte(out: &mut [u8], at: usize, label: &[u8], n: u8) -> usize
-    requires { at + length label.now + most_byte_digits ≤ length out.old }
-    ensures { Appended out.old at (label.now ++ decimal n) out.new result × (result ≤ at + length label.now + most_byte_digits) }
-{
-    let k = put_bytes(out, at, label);
-    put_byte_number(out, k, n)
+    put_bytes(out, label);
+    put_number(out, n);
 }

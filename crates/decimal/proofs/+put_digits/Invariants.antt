@@ -1,5 +1,0 @@
--- A call is on a smaller number.
-use Rattle.decimal.proofs.+put_digits.Given as goal
-
-abbrev pub decreases-put_digits : goal.decreases-put_digits
-decreases-put_digits l = l.n
