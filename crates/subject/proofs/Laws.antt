@@ -1,15 +1,14 @@
 -- Laws of a subject's text: what is put, written and read in each case, and that reading after writing gives it.
-use Prim.Native.Nat.{ℕ, ◌+◌, ◌≤◌, ◌<◌}
+use Prim.Native.Nat.{ℕ, ◌≤◌}
 use native.Mathlib.Omega.{arith}
 use mathlib.Core.Path.{◌≡◌, refl, sym, ap, ◌∙◌}
-use mathlib.Core.Logic.{◌≢◌}
 use mathlib.Core.Bool.{Bool, true, false, cond}
 use mathlib.Core.List.{List, [], ◌++◌}
 use Rattle.std.specs.Prelude.{Option, Some, None}
 use lib.Dec.{eqb}
 use lib.ListN.{length, take, drop, length-append}
 use lib.Seq.{take-append_seam}
-use borrow.Author.Tests.{eq-eqb, ne_eqb, lt-ltb, le-ltb}
+use borrow.Author.Tests.{le-ltb}
 use Rattle.base.specs.Buffers.{starts_with}
 use Rattle.base.proofs.Buffers.{starts_with-none, starts_with-length}
 use Rattle.oce_model.specs.Model.{model_of, text}
@@ -20,66 +19,16 @@ use Rattle.image_accept.specs.declared.Acceptance.TheVariants.{Refused, Accepted
 use Rattle.image_accept.specs.declared.Layout.{Layout}
 use Rattle.image_accept.proofs.Answers.{accepted-laid}
 use Rattle.decimal.specs.Decimal.{decimal}
-use Rattle.decimal.specs.Appending.{Appended}
 use Rattle.decimal.proofs.Decimal.{decimal-few}
-use Rattle.decimal.proofs.Appending.{appended-none, appended-start}
 use Rattle.oce_diag.specs.Encoding.{text_subject_kind, connector_subject_kind, block_subject_kind}
 use Rattle.subject.specs.Subject.{connector_label, block_label, least_scratch, labelled, unless_refused, subject_text, if_room, written, scratch_after, part_of, part}
-
--- ---- a label and an id
-
-module _ (kind n : ℕ) {b : List ℕ} {at : ℕ} where
-  pub put-connector : {b' : List ℕ} {r : ℕ} → Appended b at (connector_label ++ decimal n) b' r → kind ≡ connector_subject_kind → Appended b at (labelled kind n) b' r
-  unfolding labelled
-  put-connector v e = rw (eq-eqb kind connector_subject_kind e) v
-
-  pub put-block : {b' : List ℕ} {r : ℕ} → Appended b at (block_label ++ decimal n) b' r → kind ≢ connector_subject_kind → kind ≡ block_subject_kind → Appended b at (labelled kind n) b' r
-  unfolding labelled
-  put-block v d e = rw (ne_eqb kind connector_subject_kind d, eq-eqb kind block_subject_kind e) v
-
-  pub put-neither : at + least_scratch ≤ length b → kind ≢ connector_subject_kind → kind ≢ block_subject_kind → Appended b at (labelled kind n) b at
-  unfolding labelled
-  put-neither h d e = rw (ne_eqb kind connector_subject_kind d, ne_eqb kind block_subject_kind e) (appended-none (omega arith))
 
 -- ---- where there is room
 
 module _ (xs bs : List ℕ) where
-  no_room : length xs < least_scratch → if_room xs bs ≡ []
-  unfolding if_room
-  no_room h = rw (lt-ltb (length xs) least_scratch h)
-
   room : least_scratch ≤ length xs → if_room xs bs ≡ bs
   unfolding if_room
   room h = rw (le-ltb (length xs) least_scratch h)
-
-  pub short-length : length xs < least_scratch → 0 ≡ length (if_room xs bs)
-  short-length h = sym (ap length (no_room h))
-
-  pub short-after : length xs < least_scratch → xs ≡ starts_with (if_room xs bs) xs
-  short-after h = rw (no_room h) (sym (starts_with-none xs))
-
-  pub short-read : {r : List ℕ} → r ≡ take 0 (drop 0 xs) → length xs < least_scratch → r ≡ take (length (if_room xs bs)) xs
-  short-read e h = rw (no_room h) e
-
-  pub long-length : {ys : List ℕ} {r : ℕ} → Appended xs 0 bs ys r → least_scratch ≤ length xs → r ≡ length (if_room xs bs)
-  long-length v h = rw (room h) (omega (arith, v.behind))
-
-  pub long_after : {ys : List ℕ} {r : ℕ} → Appended xs 0 bs ys r → least_scratch ≤ length xs → ys ≡ starts_with (if_room xs bs) xs
-  long_after v h = rw (room h) (appended-start v)
-
-  pub long-read : {r : List ℕ} {k : ℕ} → r ≡ take k (drop 0 xs) → k ≡ length bs → least_scratch ≤ length xs → r ≡ take (length (if_room xs bs)) xs
-  long-read e f h = rw (room h, ← f) e
-
--- ---- a part of an accepted image or of the scratch
-
-module _ (s xs : List ℕ) (kind n : ℕ) {r : List ℕ} where
-  pub part-text : r ≡ text (model_of s) n → kind ≡ text_subject_kind → r ≡ part_of s xs kind n
-  unfolding part_of
-  part-text e h = rw (eq-eqb kind text_subject_kind h) e
-
-  pub part-label : r ≡ take (length (if_room xs (labelled kind n))) xs → kind ≢ text_subject_kind → r ≡ part_of s xs kind n
-  unfolding part_of
-  part-label e h = rw (ne_eqb kind text_subject_kind h) e
 
 -- ---- whether the image is refused
 

@@ -1,13 +1,13 @@
 // A subject's text, as a part of the image or of the caller's scratch.
 #![tactic(auto)]
 
-ghost use Rattle.std.specs.Prelude.{◌≡◌, ◌+◌, ◌≤◌, length, take};
+ghost use Rattle.std.specs.Prelude.{◌≡◌, length, take};
 ghost use Rattle.base.specs.Buffers.{starts_with};
 ghost use Rattle.oce_model.specs.Format.{text_tag};
 ghost use Rattle.image_accept.specs.Layout.{Laid, Tabled};
-ghost use Rattle.decimal.specs.Appending.{Appended};
-ghost use Rattle.subject.specs.Subject.{least_scratch, labelled, if_room, written, scratch_after, part_of, part};
+ghost use Rattle.subject.specs.Subject.{labelled, if_room, written, scratch_after, part_of, part};
 
+use arrayvec::ArrayVec;
 use base::part_of;
 use decimal::put_labelled;
 use image_accept::{Acceptance, Layout, accept};
@@ -20,30 +20,22 @@ pub const LEAST_SCRATCH: usize = 20;
 
 // ---- a label and an id
 
-// Puts `connector#` or `block#` and the id into out from index at on, and gives the index behind it.
-// Another kind of subject leaves out as it is.
-fn put_label(out: &mut [u8], at: usize, kind: u8, number: u32) -> usize
-    requires { at + least_scratch ≤ length out.old }
-    ensures { Appended out.old at (labelled kind number) out.new result × (result ≤ at + least_scratch) }
+// `connector#` or `block#` and the id; another kind of subject has none.
+#[tactic(auto, unfolding(crate::specs::Subject::labelled))]
+fn label_of(kind: u8, number: u32) -> ArrayVec<u8, LEAST_SCRATCH>
+    ensures { result.items ≡ labelled kind number }
 {
-    if kind == CONNECTOR_SUBJECT {
-        return put_labelled(out, at, b"connector#", number);
+    let mut label = ArrayVec::new();
+    match kind {
+        CONNECTOR_SUBJECT => put_labelled(&mut label, b"connector#", number),
+        BLOCK_SUBJECT => put_labelled(&mut label, b"block#", number),
+        _ => {}
     }
-    if kind == BLOCK_SUBJECT {
-        return put_labelled(out, at, b"block#", number);
-    }
-    at
-}
-
-// How many bytes that are.
-fn label_length(kind: u8, number: u32) -> usize
-    ensures { result ≡ length (labelled kind number) }
-{
-    let mut room = [0u8; LEAST_SCRATCH];
-    put_label(&mut room, 0, kind, number)
+    label
 }
 
 // Puts the same at the start of the scratch, where it has room, and gives the length written.
+#[tactic(auto, unfolding(crate::specs::Subject::if_room, base::specs::Buffers::starts_with))]
 pub fn write_label(kind: u8, number: u32, scratch: &mut [u8]) -> usize
     ensures length { result ≡ length (if_room scratch.old (labelled kind number)) }
     ensures scratch { scratch.new ≡ starts_with (if_room scratch.old (labelled kind number)) scratch.old }
@@ -51,23 +43,27 @@ pub fn write_label(kind: u8, number: u32, scratch: &mut [u8]) -> usize
     if scratch.len() < LEAST_SCRATCH {
         return 0;
     }
-    put_label(scratch, 0, kind, number)
+    let label = label_of(kind, number);
+    scratch[..label.len()].copy_from_slice(&label);
+    label.len()
 }
 
 // And read from there.
+#[tactic(auto, unfolding(crate::specs::Subject::if_room))]
 fn read_label(scratch: &[u8], kind: u8, number: u32) -> &[u8]
     ensures { result.now ≡ take (length (if_room scratch.now (labelled kind number))) scratch.now }
 {
     if scratch.len() < LEAST_SCRATCH {
-        return part_of(scratch, 0, 0);
+        return &[];
     }
-    part_of(scratch, 0, label_length(kind, number))
+    &scratch[..label_of(kind, number).len()]
 }
 
 // ---- the two calls
 
 // Hands out a subject's text of an accepted image: a part of the image, or of the scratch that `write_label`
 // wrote; texts is the table that `accept` filled.
+#[tactic(auto, unfolding(crate::specs::Subject::part_of))]
 pub fn accepted_subject<'a>(
     image: &'a [u8],
     scratch: &'a [u8],
