@@ -1,18 +1,34 @@
--- A law of `step_at`, where a whole field stands at the place.
-use Prim.Native.Nat.{ℕ, ◌+◌}
-use mathlib.Core.Path.{◌≡◌}
+-- What is known of a field that was found.
+use Prim.Native.Nat.{ℕ, ◌+◌, ◌<◌, ◌≤◌}
+use native.Mathlib.Omega.{arith}
+use mathlib.Core.Path.{◌≡◌, refl, sym, ap, ◌∙◌}
+use mathlib.Core.Bool.{Bool, true, false, cond}
 use mathlib.Core.List.{List}
-use borrow.Author.Tests.{le-leb}
-use Rattle.std.specs.Prelude.{Some}
+use lib.ListN.{length}
+use borrow.Author.Tests.{leb-true}
+use Rattle.std.specs.Prelude.{Some, None}
 use Rattle.oce_model.specs.Format.{leading_bytes}
 use Rattle.oce_model.specs.Image.{field_end}
-use Rattle.image_framing.specs.Walk.{whole_at}
-use Rattle.image_framing.specs.declared.Leading.{Leading}
-use Rattle.image_framing.proofs.Leads.{whole-is}
-use Rattle.reader.specs.declared.Found.TheVariants.{Field}
-use Rattle.reader.specs.declared.Step.{Step}
-use Rattle.reader.specs.Reading.{step_at}
+use Rattle.image_framing.specs.Walk.{leading_at}
+use Rattle.reader.specs.declared.Found.{Found}
+use Rattle.reader.specs.Reading.{whole, found_at, after_at}
 
-pub step_field : (s : List ℕ) (at : ℕ) {l : Leading} → Some l ≡ whole_at s at → ◌≡◌ {A = Step} (record { found = Field l.tag l.len; at = at + leading_bytes + l.len }) (step_at s at)
+-- the field f stands at an offset
+pub record Stands (s : List ℕ) (at : ℕ) (f : Found) : Type 0 where
+  pub whole : whole s at ≡ true
+  pub here : f.at ≡ at
+  pub after : after_at s at ≡ f.at + leading_bytes + f.len
+  pub within : after_at s at ≤ length s
+  pub further : at < after_at s at
+
+pub stands : {s : List ℕ} {at : ℕ} {f : Found} → Some f ≡ found_at s at → Stands s at f
 unfolding field_end
-step_field s at e = let h = whole-is s at e in rw (le-leb _ _ h.0, h.1)
+stands {s} {at} {f} h = arm (whole s at) refl h
+  where
+    arm : (b : Bool) → whole s at ≡ b → Some f ≡ cond b (Some (record { at = at; tag = (leading_at s at).tag; len = (leading_at s at).len })) None → Stands s at f
+    arm true e h =
+        let l : field_end s at ≤ length s = leb-true (field_end s at) (length s) e in
+        let n : after_at s at ≡ field_end s at = ap (λ (x : Bool). cond x (field_end s at) at) e in
+        let q : f ≡ record { at = at; tag = (leading_at s at).tag; len = (leading_at s at).len } = cc in
+        record { whole = e; here = ap (λ (x : Found). x.at) q; after = n ∙ sym (ap (λ (x : Found). x.at + leading_bytes + x.len) q); within = rw n l; further = rw n (omega arith) }
+    arm false e h = cc

@@ -1,82 +1,51 @@
 // A reading place that carries the image with it, and goes on field by field.
 #![tactic(auto)]
 
-ghost use Rattle.std.specs.Prelude.{◌≡◌};
-ghost use Rattle.reader.specs.Reading.{found_at, after_at, step_at};
+ghost use Rattle.std.specs.Prelude.{◌≡◌, ◌-◌, length};
+ghost use Rattle.std.specs.Iterator.{at_most};
+ghost use Rattle.reader.specs.Reading.{found_at, Reads};
 
 use image_framing::whole_at;
 use oce_model::LEADING_BYTES;
 
+// A whole field: where it stands, its tag and the length of its contents.
+#[derive(Clone, Copy)]
+pub struct Found {
+    pub at: usize,
+    pub tag: u8,
+    pub len: u16,
+}
+
+// The field at an offset, if a whole one stands there.
+pub fn found_at(image: &[u8], at: usize) -> Option<Found>
+    ensures { result ≡ found_at image.now at }
+{
+    let l = whole_at(image, at)?;
+    Some(Found {
+        at,
+        tag: l.tag as u8,
+        len: l.len as u16,
+    })
+}
+
+// A reader gives the field where it stands, and then stands behind it; it stays where none is.
 #[derive(Clone, Copy)]
 pub struct Reader<'a> {
     pub image: &'a [u8],
     pub at: usize,
 }
 
-// What stands at a place: a whole field, or none.
-#[derive(Clone, Copy)]
-pub enum Found {
-    Field { tag: u8, len: u16 },
-    End,
-}
+impl<'a> Iterator for Reader<'a> {
+    type Item = Found;
 
-// What a reader found, and the reader behind it.
-#[derive(Clone, Copy)]
-pub struct Read<'a> {
-    pub found: Found,
-    pub rest: Reader<'a>,
-}
+    ghost next_gives = { λ r x rest. Reads r.image.now r.at x rest.image.now rest.at };
 
-// The same with the place alone.
-#[derive(Clone, Copy)]
-pub struct Step {
-    pub found: Found,
-    pub at: usize,
-}
+    ghost remaining = { λ r. at_most (length r.image.now - r.at) };
 
-// The field at an offset; a place where none is stays.
-fn step_at(image: &[u8], at: usize) -> Step
-    ensures { result ≡ step_at image.now at }
-{
-    match whole_at(image, at) {
-        Some(l) => {
-            let end = at + LEADING_BYTES + l.len;
-            Step {
-                found: Found::Field {
-                    tag: l.tag as u8,
-                    len: l.len as u16,
-                },
-                at: end,
-            }
-        }
-        None => Step {
-            found: Found::End,
-            at,
-        },
-    }
-}
-
-// The field where the reader stands, and the reader behind it.
-pub fn next<'a>(r: Reader<'a>) -> Read<'a>
-    ensures { (result.found ≡ found_at r.entry.image.now r.entry.at) × (result.rest.image ≡ r.entry.image) × (result.rest.at ≡ after_at r.entry.image.now r.entry.at) }
-{
-    let s = step_at(r.image, r.at);
-    Read {
-        found: s.found,
-        rest: Reader {
-            image: r.image,
-            at: s.at,
-        },
-    }
-}
-
-// The same of an image and an offset.
-pub fn step_from(image: &[u8], from: usize) -> Step
-    ensures { result ≡ step_at image.now from }
-{
-    let n = next(Reader { image, at: from });
-    Step {
-        found: n.found,
-        at: n.rest.at,
+    #[tactic(auto, using(crate::proofs::Laws::stands))]
+    fn next(&mut self) -> Option<Found> {
+        let found = found_at(self.image, self.at)?;
+        self.at = found.at + LEADING_BYTES + usize::from(found.len);
+        Some(found)
     }
 }
