@@ -17,7 +17,7 @@ use Rattle.oce_diag.specs.Encoding.{diagnostic_tag, diagnostic_length, diagnosti
 use Rattle.oce_diag.specs.declared.Diagnostic.{Diagnostic}
 use Rattle.oce_diag.proofs.Encoding.{diagnostic_bytes-length, report_bytes-length}
 use Rattle.reader.specs.Reading.{whole, found_at, after_at}
-use Rattle.reader.specs.declared.Found.TheVariants.{Field}
+use Rattle.std.specs.Prelude.{Some}
 use Rattle.printed.specs.Pieces.{Row}
 
 -- ---- tag and length of each
@@ -70,7 +70,7 @@ module _ (ds : List Diagnostic) (r : List ℕ) where
     one : whole xs (diagnostic_size * i) ≡ true
     one = let e = ends in let l = long in let fits : field_end xs (diagnostic_size * i) ≤ length xs = omega arith in le-leb _ _ fits
 
-    found : found_at xs (diagnostic_size * i) ≡ Field diagnostic_tag diagnostic_length
+    found : found_at xs (diagnostic_size * i) ≡ Some (record { at = diagnostic_size * i; tag = diagnostic_tag; len = diagnostic_length })
     unfolding xs
     found = rw (one, tag_at ds r i h, length_at ds r i h)
 

@@ -12,9 +12,7 @@ use Rattle.oce_diag.specs.declared.Diagnostic.{Diagnostic}
 use Rattle.decimal.specs.Decimal.{decimal, most_digits, most_byte_digits}
 use Rattle.oce_diag.specs.Encoding.{text_subject_kind, connector_subject_kind, block_subject_kind}
 use Rattle.subject.specs.Subject.{subject_text}
-use Rattle.oce_diag.specs.Decoded.{decoded_at, diagnostic_at}
-use Rattle.reader.specs.declared.Found.{Found}
-use Rattle.reader.specs.declared.Found.TheVariants as found
+use Rattle.oce_diag.specs.Decoded.{diagnostic_at}
 use Rattle.outcome.specs.Answer.{report_of}
 use Rattle.outcome.specs.declared.Answer.{Answer}
 use Rattle.outcome.specs.declared.Answer.TheVariants.{Refused, Checked}
@@ -85,11 +83,6 @@ line_end s subject = space ++ subject_field s subject ++ newline
 -- the line of a diagnostic
 unfoldable pub line : List ℕ → Diagnostic → List ℕ
 line s d = names d.severity d.code ++ rule_and_detail d.rule d.detail ++ (space ++ decimal d.place) ++ line_end s d.subject
-
--- the line of what a reader found at an offset of a report
-unfoldable pub line_at : List ℕ → List ℕ → ℕ → Found → List ℕ
-line_at s report at (found.Field tag len) = line s (decoded_at report at)
-line_at s report at found.End = []
 
 unfoldable pub lines : List ℕ → List Diagnostic → List ℕ
 lines s [] = []

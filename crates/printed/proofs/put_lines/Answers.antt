@@ -1,34 +1,34 @@
 -- A turn puts the line of the diagnostic where the reader stands, and the reader goes on to where the next one begins.
-use Rattle.std.proofs.Common.{◌≡◌, ◌≤◌, ◌<◌, ◌+◌, ℕ, List, Bool, true, length, arith, refl, ap, ◌∙◌}
-use Rattle.printed.specs.Printed.{longest_line}
-use Rattle.printed.specs.Pieces.{goes_on}
-use Rattle.printed.proofs.Laws.{Printing, printing-start, printing-goes, printing-stops, printing-found}
+use Rattle.std.proofs.Common.{◌≡◌, ◌≤◌, ◌<◌, ◌+◌, ◌*◌, ℕ, List, Some, arith, refl, ap, ◌∙◌}
+use Rattle.oce_diag.specs.Encoding.{diagnostic_size}
+use Rattle.oce_diag.specs.Decoded.{decoded_at, diagnostic_at}
+use Rattle.reader.specs.Reading.{found_at, Reads}
+use Rattle.reader.specs.declared.Found.{Found}
+use Rattle.printed.specs.Pieces.{Row}
+use Rattle.printed.proofs.Laws.{printing_start, printing_turn, printing_full}
 use Rattle.printed.proofs.put_lines.Goals as goal
 
--- a turn has a diagnostic, and room for its line
-on : {s report b b' : List ℕ} {from count i k : ℕ} {r : Bool} → Printing s report from count b b' i k → r ≡ goes_on i count k (length b) → r ≡ true → (i < count) × (k + longest_line ≤ length b')
-on v e t = printing-goes v refl (rw (← e, t) tt)
+-- what is read in a row is the diagnostic there
+module _ {report : List ℕ} {count i : ℕ} (row : Row report count) (h : i < count) {f : Found} {rest : List ℕ} {behind : ℕ} (read : Reads report (diagnostic_size * i) (Some f) rest behind) where
+  here : f.at ≡ diagnostic_size * i
+  here = let e = read.found in let n = row.found i h in cc
 
-pub loop-r-init : goal.loop-r-init
-loop-r-init c = (printing-start c.requires.2, refl, refl)
+  decoded : decoded_at report f.at ≡ diagnostic_at report i
+  unfolding diagnostic_at
+  decoded = rw here
 
-pub put_found-k-requires : goal.put_found-k-requires
-put_found-k-requires c =
-    let room : (c.loop-r.i < c.args.count) × (c.loop-r.k + longest_line ≤ length c.loop-r.out) = on c.loop-r.invariant.0 c.goes_on.ensures c.loop-r-test.true in
-    (c.requires.0, c.requires.1, rw (c.loop-r.invariant.1, c.loop-r.invariant.2) (omega (arith, room.0, c.requires.4.fits)), room.1)
+  next : behind ≡ diagnostic_size * (i + 1)
+  next = read.place ∙ row.after i h
 
-pub loop-r-smaller : goal.loop-r-smaller
-loop-r-smaller c =
-    let room : (c.loop-r.i < c.args.count) × (c.loop-r.k + longest_line ≤ length c.loop-r.out) = on c.loop-r.invariant.0 c.goes_on.ensures c.loop-r-test.true in
-    omega (arith, room.0)
+pub loop-i-init : goal.loop-i-init
+loop-i-init g c = record { so_far = printing_start _ _ _ _; report = refl; place = refl }
 
-pub loop-r-preserved : goal.loop-r-preserved
-loop-r-preserved c =
-    let room : (c.loop-r.i < c.args.count) × (c.loop-r.k + longest_line ≤ length c.loop-r.out) = on c.loop-r.invariant.0 c.goes_on.ensures c.loop-r-test.true in
-    let found = rw (c.loop-r.invariant.1, c.loop-r.invariant.2) at c.next-n.ensures.0 in
-    let after = rw (c.loop-r.invariant.1, c.loop-r.invariant.2) at c.next-n.ensures.2 in
-    let put = rw (c.loop-r.invariant.1, c.loop-r.invariant.2) at c.put_found-k.ensures in
-    (printing-found c.loop-r.invariant.0 c.requires.4 room.0 found put, ap (λ x. x.now) c.next-n.ensures.1 ∙ c.loop-r.invariant.1, after ∙ c.requires.4.after c.loop-r.i room.0)
+pub returns-then-remaining_capacity-lt-LONGEST_LINE : goal.returns-then-remaining_capacity-lt-LONGEST_LINE
+returns-then-remaining_capacity-lt-LONGEST_LINE g c = printing_full c.loop-i.invariant.so_far (omega arith) (omega arith)
 
-pub returns : goal.returns
-returns c = printing-stops c.loop-r.invariant.0 refl (rw (← c.goes_on.ensures, c.loop-r-test.false) tt)
+pub loop-i-preserved : goal.loop-i-preserved
+loop-i-preserved g c =
+    let read = rw (c.loop-i.invariant.report, c.loop-i.invariant.place) at c.in-Some.ensures.steps in
+    let left : c.loop-i.i < c.args.count = omega arith in
+    let same : c.decode.result ≡ diagnostic_at c.args.report.now c.loop-i.i = c.decode.ensures ∙ decoded c.requires.4 left read in
+    record { so_far = printing_turn c.loop-i.invariant.so_far (rw same at c.put_line.ensures); report = read.image; place = next c.requires.4 left read }

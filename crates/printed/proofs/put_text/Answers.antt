@@ -1,10 +1,11 @@
--- `printed::put_text` meets its contract: the label is written, and the part that holds the text is put.
-use borrow.Author.Rules.{rules}
-use Rattle.printed.proofs.Laws.{room-text, put-part, near-text}
+-- What is put is no longer than the longest text.
+use Rattle.std.proofs.Common.{◌≡◌, ◌≤◌, length, length-append, arith}
+use Rattle.oce_model.specs.Format.{longest_text}
+use Rattle.printed.proofs.Laws.{text_is, text_few}
 use Rattle.printed.proofs.put_text.Goals as goal
 
-pub put_bytes-requires : goal.put_bytes-requires
-put_bytes-requires c = search (room-text, rules)
-
-pub returns : goal.returns
-returns c = search (put-part, near-text, rules)
+pub returns-clause-few : goal.returns-clause-few
+returns-clause-few g c =
+    let same = text_is _ _ _ _ c.requires.0 c.write_label.ensures.scratch (omega arith) in
+    let few : length c.accepted_subject-text.result.now ≤ longest_text = rw (c.accepted_subject-text.ensures, same) (text_few c.requires.0 _ _) in
+    rw (c.put_bytes.ensures, length-append) (omega arith)
