@@ -1,13 +1,12 @@
 -- Laws of a subject's text, and of the lines of a report so far.
-use Prim.Native.Nat.{ℕ, ◌+◌, ◌-◌, ◌*◌, ◌≤◌, ◌<◌}
+use Prim.Native.Nat.{ℕ, ◌+◌, ◌-◌, ◌≤◌, ◌<◌}
 use native.Mathlib.Decide.{dec_lt}
 use native.Mathlib.Omega.{arith}
-use mathlib.Core.Path.{◌≡◌, refl, sym, ap, ◌∙◌}
+use mathlib.Core.Path.{◌≡◌, sym, ◌∙◌}
 use mathlib.Core.Bool.{Bool, true, false, cond}
-use mathlib.Core.List.{List, [], ◌++◌, append-nil, append_assoc}
+use mathlib.Core.List.{List, ◌++◌, append-nil, append_assoc}
 use lib.Dec.{eqb}
 use lib.ListN.{length}
-use Rattle.std.specs.Prelude.{Option, Some, None}
 use Rattle.base.specs.Lists.{each}
 use Rattle.base.specs.Buffers.{starts_with}
 use Rattle.base.proofs.Lists.{each_next}
@@ -15,16 +14,13 @@ use Rattle.oce_model.specs.Format.{longest_text}
 use Rattle.oce_model.specs.Model.{model_of, text}
 use Rattle.image_accept.specs.Layout.{Laid}
 use Rattle.image_accept.specs.declared.Layout.{Layout}
-use Rattle.oce_diag.specs.Encoding.{text_subject_kind, diagnostic_size}
+use Rattle.oce_diag.specs.Encoding.{text_subject_kind}
 use Rattle.subject.specs.Subject.{least_scratch, labelled, if_room, part_of, subject_text}
 use Rattle.image_texts.proofs.Places.{text-short}
 use Rattle.subject.proofs.Laws.{labelled-few, accepted-written}
-use Rattle.oce_diag.specs.declared.Diagnostic.{Diagnostic}
-use Rattle.oce_diag.specs.Decoded.{decoded_at, diagnostic_at}
+use Rattle.oce_diag.specs.Decoded.{diagnostic_at}
 use Rattle.printed.specs.Printed.{line, lines_from, longest_line}
-use Rattle.printed.specs.Pieces.{Pieced, Row}
-use Rattle.reader.specs.Reading.{found_at}
-use Rattle.reader.specs.declared.Found.{Found}
+use Rattle.printed.specs.Pieces.{Pieced}
 
 -- ---- subjects
 

@@ -77,7 +77,7 @@ fn put_rule<const CAP: usize>(out: &mut ArrayVec<u8, CAP>, rule: u8, detail: u8)
 }
 
 // A subject's text, as `subject` hands it out: a part of the image, or of a scratch that is written first.
-#[tactic(auto, using(crate::proofs::Laws::text_is))]
+#[tactic(auto, using(crate::proofs::Laws::text_is, crate::proofs::Laws::text_few))]
 fn put_text<const CAP: usize>(
     image: &[u8],
     layout: Layout,

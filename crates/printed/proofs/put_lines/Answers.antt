@@ -1,8 +1,8 @@
 -- A turn puts the line of the diagnostic where the reader stands, and the reader goes on to where the next one begins.
-use Rattle.std.proofs.Common.{◌≡◌, ◌≤◌, ◌<◌, ◌+◌, ◌*◌, ℕ, List, Some, arith, refl, ap, ◌∙◌}
+use Rattle.std.proofs.Common.{◌≡◌, ◌<◌, ◌+◌, ◌*◌, ℕ, List, Some, arith, refl, ◌∙◌}
 use Rattle.oce_diag.specs.Encoding.{diagnostic_size}
 use Rattle.oce_diag.specs.Decoded.{decoded_at, diagnostic_at}
-use Rattle.reader.specs.Reading.{found_at, Reads}
+use Rattle.reader.specs.Reading.{Reads}
 use Rattle.reader.specs.declared.Found.{Found}
 use Rattle.printed.specs.Pieces.{Row}
 use Rattle.printed.proofs.Laws.{printing_start, printing_turn, printing_full}

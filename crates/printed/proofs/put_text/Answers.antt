@@ -1,5 +1,5 @@
 -- What is put is no longer than the longest text.
-use Rattle.std.proofs.Common.{◌≡◌, ◌≤◌, length, length-append, arith}
+use Rattle.std.proofs.Common.{◌≤◌, length, length-append, arith}
 use Rattle.oce_model.specs.Format.{longest_text}
 use Rattle.printed.proofs.Laws.{text_is, text_few}
 use Rattle.printed.proofs.put_text.Goals as goal
