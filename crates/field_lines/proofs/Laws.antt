@@ -1,21 +1,20 @@
 -- Laws of the lines that list an image's fields, one field more at a time.
-use Prim.Native.Nat.{ℕ, zero, suc, ◌+◌, ◌-◌, ◌<◌, ◌≤◌}
+use Prim.Native.Nat.{ℕ, zero, suc, ◌+◌, ◌<◌, ◌≤◌}
+use native.Mathlib.Decide.{dec_lt}
 use native.Mathlib.Omega.{arith}
 use mathlib.Core.Path.{◌≡◌, refl, sym, ap, ◌∙◌}
 use mathlib.Core.Bool.{Bool, true, false, cond}
-use mathlib.Core.List.{List, [], ◌∷◌, ◌++◌, append_assoc}
+use mathlib.Core.List.{List, [], ◌∷◌, ◌++◌, append-nil, append_assoc}
 use lib.ListN.{length}
-use borrow.Author.Tests.{leb-true, lt-leb}
+use borrow.Author.Tests.{lt-leb}
 use Rattle.numbers.specs.Bytes.{byte, le16}
 use Rattle.oce_model.specs.Format.{leading_bytes}
 use Rattle.oce_model.specs.Image.{field_at, field_end, fields_from, fields, ord_of}
-use Rattle.decimal.specs.Appending.{Appended}
-use Rattle.decimal.proofs.Appending.{appended-none, appended_then, appended-start, appended-length}
-use Rattle.reader.specs.Reading.{whole, after_at, step_at}
+use Rattle.std.specs.Prelude.{Option, None, Some}
+use Rattle.reader.specs.Reading.{whole, found_at, after_at}
 use Rattle.reader.specs.declared.Found.{Found}
-use Rattle.reader.specs.declared.Found.TheVariants as found
-use Rattle.reader.specs.declared.Step.{Step}
-use Rattle.field_lines.specs.Lines.{field_line, found_line, field_lines, lines_from, longest_field_line, Pieced}
+use Rattle.reader.proofs.Laws.{Stands, stands_none}
+use Rattle.field_lines.specs.Lines.{field_line, field_lines, lines_from, longest_field_line, Pieced}
 
 -- ---- the lines from an offset on
 
@@ -60,94 +59,48 @@ pub lines-all : (s : List ℕ) → lines_from s 0 ≡ field_lines (fields s)
 unfolding fields
 lines-all s = refl
 
--- ---- a reader's step
-
--- the line of what was found
-pub found-field : {b b' : List ℕ} {k r : ℕ} {x : Found} {tag len : ℕ} (at : ℕ) → x ≡ found.Field tag len → Appended b k (field_line at tag len) b' r → Appended b k (found_line at x) b' r
-unfolding found_line
-found-field at e v = rw e v
-
-pub found_none : {b : List ℕ} {k : ℕ} {x : Found} (at : ℕ) → x ≡ found.End → k + longest_field_line ≤ length b → Appended b k (found_line at x) b k
-unfolding found_line
-found_none at e h = rw e (appended-none (omega arith))
-
--- one that moves is over a whole field
-moves : (s : List ℕ) (at : ℕ) → at < after_at s at → whole s at ≡ true
-moves s at l = arm (whole s at) refl l
-  where
-    arm : (b : Bool) → whole s at ≡ b → at < cond b (field_end s at) at → whole s at ≡ true
-    arm true e h = e
-    arm false e h = absurd (omega arith)
-
--- one that doesn't is over none
-stays : (s : List ℕ) (at : ℕ) → after_at s at ≤ at → whole s at ≡ false
-stays s at l = arm (whole s at) refl l
-  where
-    arm : (b : Bool) → whole s at ≡ b → cond b (field_end s at) at ≤ at → whole s at ≡ false
-    arm true e h = absurd (omega (arith, behind s at))
-    arm false e h = e
-
 -- ---- the loop
 
--- the lines so far stand at the start of the buffer, and with those from the offset at on they are all
-pub record Listing (s : List ℕ) (from : ℕ) (b b' : List ℕ) (at k : ℕ) : Type 0 where
+-- behind b stand the lines of the fields before the offset at, and with those from there on they are all from the offset `from` on
+pub record Listing (s : List ℕ) (from : ℕ) (b b' : List ℕ) (at : ℕ) : Type 0 where
   pub lines : List ℕ
-  pub put : Appended b 0 lines b' k
+  pub bytes : b' ≡ b ++ lines
   pub all : lines_from s from ≡ lines ++ lines_from s at
   pub within : at ≤ length s
   pub forward : from ≤ at
-  pub started : at ≤ from → k ≡ 0
+  pub started : at ≡ from → lines ≡ []
 
-pub listing_start : {s : List ℕ} {from : ℕ} {b : List ℕ} → from ≤ length s → Listing s from b b from 0
-listing_start h = record { lines = []; put = appended-none (omega arith); all = refl; within = h; forward = omega arith; started = λ _. refl }
+pub listing_start : {s : List ℕ} {from : ℕ} {b : List ℕ} → from ≤ length s → Listing s from b b from
+listing_start {b = b} h = record { lines = []; bytes = sym (append-nil b); all = refl; within = h; forward = omega arith; started = λ _. refl }
 
-module _ {s : List ℕ} {from : ℕ} {b b' : List ℕ} {at k : ℕ} (v : Listing s from b b' at k) where
-  pub listing-long : length b' ≡ length b
-  listing-long = appended-length v.put
-
-  pub listing-room : k ≤ length b'
-  listing-room = let n : length b' ≡ length b = listing-long in omega (arith, v.put.fits, v.put.behind)
-
-  pieced : (longest_field_line ≤ length b → at ≤ from → lines_from s from ≡ []) → Pieced s from b b' (record { next = at; length = k })
-  pieced e = record { lines = v.lines; long = omega (arith, v.put.behind); bytes = appended-start v.put; all = v.all; within = v.within; ends = e }
-
-  module _ (st : Step) (e : st ≡ step_at s at) where
-    is : st.at ≡ after_at s at
-    is = ap (λ (t : Step). t.at) e
-
-    -- one field more
-    module _ (l : at < st.at) where
-      one : whole s at ≡ true
-      one = moves s at (rw is at l)
-
-      ahead : st.at ≡ field_end s at
-      ahead = is ∙ ap (λ (c : Bool). cond c (field_end s at) at) one
-
-      pub step-within : st.at ≤ length s
-      step-within = rw ahead (leb-true (field_end s at) (length s) one)
-
-      line-is : found_line at st.found ≡ field_line at (byte s at) (le16 s (at + 1))
-      unfolding found_line
-      line-is = ap (λ (t : Step). found_line at t.found) e ∙ ap (λ (c : Bool). found_line at (cond c (found.Field (byte s at) (le16 s (at + 1))) found.End)) one
-
-      pub listing-less : length s - st.at < length s - at
-      listing-less = let w = step-within in omega arith
-
-      pub listing-turn : {b'' : List ℕ} {r : ℕ} → Appended b' k (found_line at st.found) b'' r → Listing s from b b'' st.at r
-      listing-turn w = record {
-        lines = v.lines ++ found_line at st.found;
-        put = appended_then v.put w;
-        all = v.all ∙ ap (λ (xs : List ℕ). v.lines ++ xs) (lines_more s at one ∙ sym (ap (λ (xs : List ℕ). xs ++ lines_from s st.at) line-is ∙ ap (λ (i : ℕ). field_line at (byte s at) (le16 s (at + 1)) ++ lines_from s i) ahead))
-            ∙ sym (append_assoc v.lines (found_line at st.found) (lines_from s st.at));
-        within = step-within;
-        forward = omega (arith, v.forward);
-        started = λ h. absurd (omega (arith, v.forward));
+module _ {s : List ℕ} {from : ℕ} {b b' : List ℕ} {at : ℕ} (v : Listing s from b b' at) where
+  -- one field more
+  pub listing_turn : {f : Found} {b'' : List ℕ} → Stands s at f → b'' ≡ b' ++ field_line f.at f.tag f.len → Listing s from b b'' (after_at s at)
+  listing_turn {f} h w =
+      let line = field_line f.at f.tag f.len in
+      let e : after_at s at ≡ field_end s at = ap (λ (x : Bool). cond x (field_end s at) at) h.whole in
+      let m : lines_from s at ≡ line ++ lines_from s (after_at s at) = rw e (lines_more s at h.whole ∙ sym (ap (λ (g : Found). field_line g.at g.tag g.len ++ lines_from s (field_end s at)) h.is)) in
+      record {
+        lines = v.lines ++ line;
+        bytes = w ∙ rw v.bytes (append_assoc b v.lines line);
+        all = v.all ∙ ap (λ (xs : List ℕ). v.lines ++ xs) m ∙ sym (append_assoc v.lines line (lines_from s (after_at s at)));
+        within = h.within;
+        forward = omega (arith, h.further, v.forward);
+        started = λ q. absurd (omega (arith, h.further, v.forward));
       }
 
-    -- no field is left
-    pub listing-end : st.at ≤ at → Pieced s from b b' (record { next = at; length = k })
-    listing-end l = pieced (λ _ h. let q : from ≡ at = (let f = v.forward in omega arith) in rw q (none (length s) s at 0 0 (stays s at (rw is at l))))
+  -- no field is left
+  pub listing_end : (room : ℕ) → ◌≡◌ {A = Option Found} None (found_at s at) → Pieced s from room b b' None
+  listing_end room h = record { lines = v.lines; bytes = v.bytes; all = v.all ∙ ap (λ (xs : List ℕ). v.lines ++ xs) (none (length s) s at 0 0 (stands_none s at h)); within = tt; moves = λ _. tt }
 
   -- no room is left
-  pub listing_full : length b' - k < longest_field_line → Pieced s from b b' (record { next = at; length = k })
-  listing_full l = pieced (λ r h. let z : k ≡ 0 = v.started h in let n : length b' ≡ length b = listing-long in absurd (omega arith))
+  pub listing_full : {room : ℕ} → room < length b' + longest_field_line → Pieced s from room b b' (Some at)
+  listing_full {room} l = record { lines = v.lines; bytes = v.bytes; all = v.all; within = v.within; moves = λ r. arm (dec_lt from at) r }
+    where
+      arm : Dec (from < at) → length b + longest_field_line ≤ room → from < at
+      arm (yes p) r = p
+      arm (no p) r =
+          let f = v.forward in
+          let e : at ≡ from = omega arith in
+          let n : length b' ≡ length b = rw (v.bytes, v.started e, append-nil b) in
+          absurd (omega arith)

@@ -1,68 +1,44 @@
-// The lines that list an image's fields, put into a lent buffer: each field's offset, tag and length.
+// The lines that list an image's fields, put behind those of a text that has room for them: each field's offset, tag and length.
 #![tactic(auto)]
 
-ghost use Rattle.std.specs.Prelude.{◌+◌, ◌<◌, ◌≤◌, length};
+ghost use Rattle.std.specs.Prelude.{◌≡◌, ◌+◌, ◌<◌, ◌≤◌, ◌++◌, length};
+ghost use Rattle.arrayvec.specs.ArrayVec.{array_vec_len};
 ghost use Rattle.numbers.specs.Bytes.{word_range};
-ghost use Rattle.decimal.specs.Appending.{Appended};
-ghost use Rattle.field_lines.specs.Lines.{field_line, found_line, longest_field_line, Pieced};
+ghost use Rattle.field_lines.specs.Lines.{field_line, longest_field_line, Pieced};
 
-use decimal::{put_bytes, put_labelled, put_labelled_byte, put_number};
-use reader::{Found, step_from};
-
-// The offset of the next field to list, and how many bytes of lines stand in the buffer.
-#[derive(Clone, Copy)]
-pub struct Piece {
-    pub next: usize,
-    pub length: usize,
-}
+use arrayvec::ArrayVec;
+use decimal::{put_bytes, put_labelled, put_number};
+use reader::{Found, Reader};
 
 // No line is longer.
 pub const LONGEST_FIELD_LINE: usize = 26;
 
-// The line of a field, put into out from index k on; the index behind it is given.
-fn put_field(out: &mut [u8], k: usize, at: u32, tag: u8, len: u16) -> usize
-    requires { k + longest_field_line ≤ length out.old }
-    ensures { Appended out.old k (field_line at tag len) out.new result }
+// The line of a field.
+#[tactic(auto, unfolding(crate::specs::Lines::field_line))]
+fn put_field<const CAP: usize>(out: &mut ArrayVec<u8, CAP>, field: Found)
+    requires { (array_vec_len out.old + longest_field_line ≤ CAP) × (field.at < word_range) }
+    ensures { out.new.items ≡ out.old.items ++ field_line field.at field.tag field.len }
 {
-    let k = put_number(out, k, at);
-    let k = put_labelled_byte(out, k, b" ", tag);
-    let k = put_labelled(out, k, b" ", len as u32);
-    put_bytes(out, k, b"\n")
+    put_number(out, field.at as u32);
+    put_labelled(out, b" ", field.tag);
+    put_labelled(out, b" ", u32::from(field.len));
+    put_bytes(out, b"\n");
 }
 
-// The line of what was found at an offset.
-fn put_found(out: &mut [u8], k: usize, at: usize, found: Found) -> usize
-    requires { (k + longest_field_line ≤ length out.old) × (at < word_range) }
-    ensures { Appended out.old k (found_line at found) out.new result }
-{
-    match found {
-        Found::End => k,
-        Found::Field { tag, len } => put_field(out, k, at as u32, tag, len),
-    }
-}
-
-// The lines of the fields from an offset on, as long as the longest line has room: at the start of out.
-pub fn put_fields(image: &[u8], from: usize, out: &mut [u8]) -> Piece
+// The lines of the fields from an offset on, as long as the longest line has room; gives the offset of the
+// next field to list, if one may be left.
+pub fn put_fields<const CAP: usize>(
+    image: &[u8],
+    from: usize,
+    out: &mut ArrayVec<u8, CAP>,
+) -> Option<usize>
     requires { (from ≤ length image.now) × (length image.now < word_range) }
-    ensures { Pieced image.now from out.old out.new result }
+    ensures { Pieced image.now from CAP out.old.items out.new.items result }
 {
-    let mut at = from;
-    let mut k = 0;
-    while LONGEST_FIELD_LINE <= out.len() - k {
-        let step = step_from(image, at);
-        let next = step.at;
-        if next <= at {
-            return Piece {
-                next: at,
-                length: k,
-            };
-        }
-        let found = step.found;
-        k = put_found(out, k, at, found);
-        at = next;
+    let mut fields = Reader { image, at: from };
+    while LONGEST_FIELD_LINE <= out.remaining_capacity() {
+        let field = fields.next()?;
+        put_field(out, field);
     }
-    Piece {
-        next: at,
-        length: k,
-    }
+    Some(fields.at)
 }

@@ -1,11 +1,13 @@
--- `field_lines::put_fields` meets its contract: the fields up to the offset at are listed.
-use Prim.Native.Nat.{◌-◌}
-use lib.ListN.{length}
+-- The lines of the fields before the reader's place are put.
+use Rattle.std.proofs.Common.{◌≡◌, ◌-◌, length}
 use Rattle.field_lines.proofs.Laws.{Listing}
 use Rattle.field_lines.proofs.put_fields.Given as goal
 
-abbrev pub invariant-loop-out : goal.invariant-loop-out
-invariant-loop-out l = Listing l.image l.from l.initial.out l.out l.at l.k
+abbrev pub invariant-loop-fields : goal.invariant-loop-fields
+invariant-loop-fields g l = record {
+  so_far : Listing l.image l.from l.fn.out.items l.out.items l.fields.at;
+  image : l.fields.image.now ≡ l.image;
+}
 
-abbrev pub decreases-loop-out : goal.decreases-loop-out
-decreases-loop-out l = length l.image - l.at
+abbrev pub decreases-loop-fields : goal.decreases-loop-fields
+decreases-loop-fields g l = length l.image - l.fields.at
