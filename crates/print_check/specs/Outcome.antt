@@ -1,9 +1,8 @@
--- What the printing program leaves in the buffers that it is lent, and what it answers. What it reads and writes of files has no definition: the language can't say it.
-use Rattle.std.specs.Prelude.{ℕ, ◌+◌, Bool, true, false, List, replicate}
+-- What the printing program leaves in the buffers that it is lent.
+use Rattle.std.specs.Prelude.{ℕ, ◌+◌, ◌≤◌, ◌≡◌, List, length, replicate}
+use Rattle.outcome.specs.Answer.{answer, report_after}
 use Rattle.outcome.specs.declared.Answer.{Answer}
 use Rattle.outcome.specs.declared.Answer.TheVariants.{Refused, Checked}
-use Rattle.print_check.specs.declared.Input.{Input}
-use Rattle.print_check.specs.declared.Input.TheVariants.{Bytes, Unreadable}
 
 -- The program lends 65,535 bytes for each buffer (FORMAT 19); the report's are 0 before the call
 abbrev pub longest_report : ℕ
@@ -12,16 +11,15 @@ longest_report = 65535
 unfoldable pub lent_report : List ℕ
 lent_report = replicate longest_report 0
 
--- an answer that is no refusal, and how many diagnostics it counts
-abbrev pub is_checked : Answer → Bool
-is_checked (Refused number at) = false
-is_checked (Checked errors warnings) = true
-
+-- how many diagnostics an answer counts
 abbrev pub count_of : Answer → ℕ
 count_of (Refused number at) = 0
 count_of (Checked errors warnings) = errors + warnings
 
--- how many bytes of a buffer were read from a file
-abbrev pub read_length : Input → ℕ
-read_length (Bytes n) = n
-read_length (Unreadable why) = 0
+-- a check of the image s answered a, and left that report in a buffer of such a length
+pub record Reported (s : List ℕ) (a : Answer) (report : List ℕ) : Type 0 where
+  pub filled : List ℕ
+  pub lent : List ℕ
+  pub answer : a ≡ answer s (length filled) (length lent)
+  pub bytes : report ≡ report_after s filled lent
+  pub short : length lent ≤ longest_report
