@@ -6,8 +6,9 @@
 use base::part_of;
 use image_texts::same_bytes;
 use oce_model::LONGEST_IMAGE;
-use print_batch::{Ending, print_batch_from};
-use print_check::{Input, print_check, print_fields, read_image};
+use outcome::Answer;
+use print_batch::{Unprinted, print_batch_from};
+use print_check::{print_check, print_fields, read_image};
 use std::env::{Env, FillError};
 use std::io::{Error, Write};
 use streams::{create, fail, open_read, read_full, unlink};
@@ -125,17 +126,16 @@ fn write_filled_as(rt: &HostRuntime, i: usize, filled: &[u8]) {
 fn check_image(rt: &HostRuntime, image: &[u8], i: usize) {
     let mut filled = [0u8; LONGEST_IMAGE];
     let outcome = print_check(&mut rt.stdout(), image, &mut filled);
-    if !outcome.printed {
+    if outcome.printed.is_err() {
         complain(rt, b"not all of the report could be written");
     }
     if arg_count(rt) <= i {
         return;
     }
-    if !outcome.checked {
-        complain(rt, b"a refused image gives no filled image");
-        return;
+    match outcome.answer {
+        Answer::Refused { .. } => complain(rt, b"a refused image gives no filled image"),
+        Answer::Checked { .. } => write_filled_as(rt, i, part_of(&filled, 0, image.len())),
     }
-    write_filled_as(rt, i, part_of(&filled, 0, image.len()));
 }
 
 fn check_stdin(rt: &HostRuntime) {
@@ -146,23 +146,18 @@ fn check_stdin(rt: &HostRuntime) {
 
 fn check_file(rt: &HostRuntime, name: &[u8]) {
     let mut bytes = [0u8; READ];
-    let input = read_image(rt, &mut rt.stderr(), name, &mut bytes);
-    match input {
-        Input::Bytes(n) => check_image(rt, part_of(&bytes, 0, n), 2),
-        Input::Unreadable(_) => {}
+    if let Ok(n) = read_image(rt, &mut rt.stderr(), name, &mut bytes) {
+        check_image(rt, part_of(&bytes, 0, n), 2);
     }
 }
 
 fn list_file(rt: &HostRuntime, name: &[u8]) {
     let mut bytes = [0u8; READ];
-    let input = read_image(rt, &mut rt.stderr(), name, &mut bytes);
-    match input {
-        Input::Bytes(n) => {
-            if !print_fields(&mut rt.stdout(), part_of(&bytes, 0, n)) {
-                complain(rt, b"not all of the fields could be listed");
-            }
-        }
-        Input::Unreadable(_) => {}
+    let Ok(n) = read_image(rt, &mut rt.stderr(), name, &mut bytes) else {
+        return;
+    };
+    if print_fields(&mut rt.stdout(), part_of(&bytes, 0, n)).is_err() {
+        complain(rt, b"not all of the fields could be listed");
     }
 }
 
@@ -185,20 +180,20 @@ fn list_named(rt: &HostRuntime, count: usize) {
 // ---- many images
 
 // Says what went wrong with a batch; name is what complaints call its file.
-fn complain_of_batch(rt: &HostRuntime, ending: Ending, name: &[u8]) {
-    match ending {
-        Ending::Printed => {}
-        Ending::Unreadable(why) => complain_of(rt, name, why),
-        Ending::TooLong => complain(rt, b"the batch is longer than 4194304 bytes"),
-        Ending::NotWritten => complain(rt, b"not all of the report could be written"),
+fn complain_of_batch(rt: &HostRuntime, why: Unprinted, name: &[u8]) {
+    match why {
+        Unprinted::Unreadable(why) => complain_of(rt, name, why),
+        Unprinted::TooLong => complain(rt, b"the batch is longer than 4194304 bytes"),
+        Unprinted::NotWritten(_) => complain(rt, b"not all of the report could be written"),
     }
 }
 
 fn check_batch_file(rt: &HostRuntime, name: &[u8]) {
     match open_read(rt, name) {
         Ok(mut file) => {
-            let ending = print_batch_from(&mut rt.stdout(), &mut file);
-            complain_of_batch(rt, ending, name);
+            if let Err(why) = print_batch_from(&mut rt.stdout(), &mut file) {
+                complain_of_batch(rt, why, name);
+            }
         }
         Err(why) => complain_of(rt, name, why),
     }
@@ -207,8 +202,9 @@ fn check_batch_file(rt: &HostRuntime, name: &[u8]) {
 // Checks a batch of standard input, or of the file that the second argument names.
 fn check_images(rt: &HostRuntime, count: usize) {
     if count <= 2 {
-        let ending = print_batch_from(&mut rt.stdout(), &mut rt.stdin());
-        complain_of_batch(rt, ending, b"standard input");
+        if let Err(why) = print_batch_from(&mut rt.stdout(), &mut rt.stdin()) {
+            complain_of_batch(rt, why, b"standard input");
+        }
         return;
     }
     let mut name = [0u8; LONGEST_NAME];

@@ -66,7 +66,7 @@ unfolding lines_from each
 no_lines t b = refl
 
 -- its first line, and the lines of as many diagnostics as were counted
-printed-there : (t b : List ℕ) → ((i : ℕ) → byte t i < byte_range) → first_line (answer_of (summary_of t)) ++ lines_from t (image_report t ++ b) 0 (count_of (summary_of t)) ≡ printed t (answer_of (summary_of t))
+pub printed-there : (t b : List ℕ) → ((i : ℕ) → byte t i < byte_range) → first_line (answer_of (summary_of t)) ++ lines_from t (image_report t ++ b) 0 (count_of (summary_of t)) ≡ printed t (answer_of (summary_of t))
 unfolding summary_of image_report answer_of printed
 printed-there t b f = arm (refusal t) refl
   where
@@ -115,7 +115,7 @@ taken-bytes (suc n) (x ∷ xs) f zero = f 0
 taken-bytes (suc n) (x ∷ xs) f (suc i) = taken-bytes n xs (λ j. f (suc j)) i
 
 module _ (s : List ℕ) (bytes : (i : ℕ) → byte s i < byte_range) where
-  image-bytes : (f : Field) (i : ℕ) → byte (image_in s f) i < byte_range
+  pub image-bytes : (f : Field) (i : ℕ) → byte (image_in s f) i < byte_range
   unfolding text_of
   image-bytes f i = taken-bytes f.len (drop (f.at + leading_bytes) s) (λ j. rw (get_or-drop (f.at + leading_bytes) s j 0) (bytes (f.at + leading_bytes + j))) i
 

@@ -1,7 +1,7 @@
 -- The part of each image begins where the one before ends.
 use Rattle.std.proofs.Common.{rules}
 use Rattle.image_framing.proofs.Walks.{walk-less}
-use Rattle.print_batch.proofs.Laws.{printing-start, printing-fits, printing-room, printing-end, printing-part, printing-turn}
+use Rattle.print_batch.proofs.Laws.{printing-start, printing-done, printing-fits, printing-room, printing-end, printing-part, printing-turn}
 use Rattle.print_batch.proofs.print_images.Goals as goal
 
 ruleset mine = (printing-start, printing-fits, printing-room, printing-end, printing-part, printing-turn, walk-less, rules)
@@ -22,4 +22,7 @@ pub loop-f-smaller : goal.loop-f-smaller
 loop-f-smaller g c = search mine
 
 pub loop-f-preserved : goal.loop-f-preserved
-loop-f-preserved g c = search mine
+loop-f-preserved g c = printing-turn c.loop-f.invariant c.loop-f-test.true c.summary_in-r.ensures c.in_ok-print_image.ensures c.part_end-o.ensures c.next_field-f.ensures.0
+
+pub returns : goal.returns
+returns g c = search (printing-done, rules)
