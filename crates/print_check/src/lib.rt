@@ -82,12 +82,7 @@ fn print_first<W: Write>(to: &mut W, answer: Answer) -> io::Result<()>
 }
 
 // Prints an answer, and the diagnostics of the report that it counts.
-fn print_all<W: Write>(
-    to: &mut W,
-    image: &[u8],
-    report: &[u8],
-    answer: Answer,
-) -> io::Result<()>
+fn print_all<W: Write>(to: &mut W, image: &[u8], report: &[u8], answer: Answer) -> io::Result<()>
     requires { Reported image.now answer report.now }
     ensures { OnOk result (Appends (W.contents to.old) (W.contents to.new) (printed image.now answer)) }
 {
