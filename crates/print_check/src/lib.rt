@@ -55,7 +55,8 @@ pub fn print_lines<W: Write>(
     Ok(())
 }
 
-// The same for an image that is accepted.
+// The same for an image that is accepted. Inlined, so that a single check needs no more of the stack.
+#[inline(always)]
 pub fn print_report<W: Write>(
     to: &mut W,
     image: &[u8],
