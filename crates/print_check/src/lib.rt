@@ -9,7 +9,7 @@ ghost use Rattle.oce_model.specs.Format.{text_tag, longest_image};
 ghost use Rattle.oce_model.specs.Image.{fields};
 ghost use Rattle.oce_model.specs.Refusals.{refusal};
 ghost use Rattle.image_accept.specs.Layout.{Laid, Tabled};
-ghost use Rattle.outcome.specs.Answer.{answer, filled_after};
+ghost use Rattle.outcome.specs.Answer.{answer, filled_after, report_after};
 ghost use Rattle.printed.specs.Pieces.{Row};
 ghost use Rattle.printed.specs.Printed.{first_line, lines_from, printed};
 ghost use Rattle.field_lines.specs.Lines.{field_lines};
@@ -106,6 +106,15 @@ pub struct Outcome {
     pub printed: io::Result<()>,
 }
 
+// The check, with what it leaves in both buffers.
+fn check_lent(image: &[u8], filled: &mut [u8], report: &mut [u8]) -> Answer
+    ensures answer { result ≡ answer image.now (length filled.old) (length report.old) }
+    ensures filled { filled.new ≡ filled_after image.now filled.old report.old }
+    ensures report { report.new ≡ report_after image.now filled.old report.old }
+{
+    check(image, filled, report)
+}
+
 // Checks an image and prints its report; filled gets the filled image, where there is no refusal.
 pub fn print_check<W: Write>(to: &mut W, image: &[u8], filled: &mut [u8]) -> Outcome
     ensures answer { result.answer ≡ answer image.now (length filled.old) longest_report }
@@ -113,7 +122,7 @@ pub fn print_check<W: Write>(to: &mut W, image: &[u8], filled: &mut [u8]) -> Out
     ensures printed { OnOk result.printed (Appends (W.contents to.old) (W.contents to.new) (printed image.now result.answer)) }
 {
     let mut report = [0u8; LONGEST_REPORT];
-    let answer = check(image, filled, &mut report);
+    let answer = check_lent(image, filled, &mut report);
     Outcome {
         answer,
         printed: print_all(to, image, &report, answer),
