@@ -5,7 +5,8 @@ use native.Mathlib.Omega.{arith}
 use mathlib.Core.Path.{◌≡◌, refl, sym, ap, ◌∙◌}
 use mathlib.Core.Bool.{Bool, true, false, cond, ◌&&◌, and-false}
 use mathlib.Core.List.{List}
-use Rattle.std.specs.Prelude.{None}
+use Rattle.std.specs.Prelude.{Some, None}
+use Rattle.base.proofs.Options.{some-ne-none}
 use lib.Dec.{eqb, ltb}
 use lib.ListN.{length, get_or, take, drop, length-take}
 use lib.Seq.{take_at}
@@ -16,15 +17,10 @@ use Rattle.base.proofs.Lists.{and_parts, steps_next, tally-next, tally-le}
 use Rattle.base.proofs.Buffers.{patch-length, starts_with-patch}
 use Rattle.numbers.specs.Bytes.{byte, le32}
 use Rattle.oce_model.specs.Format.{connector_tag, boundary_output_tag, attrs_length, longest_image}
-use Rattle.oce_model.specs.Model.{model_of}
-use Rattle.oce_model.specs.Refusals.{refusal}
+use Rattle.oce_model.specs.Model.{Model, model_of, connector_count, boundary_output_count}
+use Rattle.oce_model.specs.Refusals.{Refusal, refusal}
 use Rattle.oce_model.proofs.Accepted.{Accepted, accepted, connectors-length, outputs-length}
-use Rattle.image_accept.specs.Layout.{Laid, acceptance, accepts}
-use Rattle.image_accept.specs.declared.Layout.{Layout}
-use Rattle.image_accept.specs.declared.Acceptance.{Acceptance}
-use Rattle.image_accept.specs.declared.Acceptance.TheVariants.{Refused}
-use Rattle.image_records.proofs.Laws.{connectors-counted, outputs-counted, connectors-few, boundary-outputs-few}
-use Rattle.unify_slots.specs.Table.{slot_count}
+use Rattle.unify_slots.specs.Slots.{slot_count}
 use Rattle.outcome.specs.Filled.{slot_offsets, filled_of}
 use Rattle.moved.proofs.Regions.{connector_slots, output_slots, slots-fit}
 use Rattle.filling.proofs.Laws.{patch-start}
@@ -32,43 +28,35 @@ use Rattle.agreement_filled.specs.Filled.{index_at, attributes_at, filled_size, 
 
 -- ---- the slot of a record
 
-module _ {s : List ℕ} {l : Layout} (h : Laid s l) where
-  count : l.connectors.count + l.outputs.count ≡ slot_count (model_of s)
-  count = rw (connectors-counted h, outputs-counted h)
+module _ (m : Model) (tag i : ℕ) {c : ℕ} (n : c ≡ connector_count m) where
+  pub slot-connector : (eqb tag connector_tag && ltb i c) ≡ true → i ≡ slot_of m tag i
+  unfolding slot_of
+  slot-connector e = rw (← n, e)
 
-  pub few-slots : l.connectors.count + l.outputs.count ≤ longest_image + longest_image
-  few-slots = omega (arith, connectors-few h, boundary-outputs-few h)
-
-  module _ (tag i : ℕ) where
-    pub few-outputs : (eqb tag boundary_output_tag && ltb i l.outputs.count) ≡ true → l.connectors.count + i ≤ longest_image + longest_image
-    few-outputs e =
-        let p = and_parts (eqb tag boundary_output_tag) (ltb i l.outputs.count) e in
-        omega (arith, few-slots, ltb-true i l.outputs.count p.1)
-
-    pub slot-connector : (eqb tag connector_tag && ltb i l.connectors.count) ≡ true → i ≡ slot_of (model_of s) tag i
+  module _ {o : ℕ} (k : o ≡ boundary_output_count m) (d : (eqb tag connector_tag && ltb i c) ≡ false) where
+    pub slot-output : (eqb tag boundary_output_tag && ltb i o) ≡ true → c + i ≡ slot_of m tag i
     unfolding slot_of
-    slot-connector e = rw (← (connectors-counted h), e)
+    slot-output e = rw (← n, ← k, d, e)
 
-    module _ (d : (eqb tag connector_tag && ltb i l.connectors.count) ≡ false) where
-      pub slot-output : (eqb tag boundary_output_tag && ltb i l.outputs.count) ≡ true → l.connectors.count + i ≡ slot_of (model_of s) tag i
-      unfolding slot_of
-      slot-output e = rw (← (connectors-counted h), ← (outputs-counted h), d, e)
+    pub slot-none : (eqb tag boundary_output_tag && ltb i o) ≡ false → c + o ≡ slot_of m tag i
+    unfolding slot_of
+    slot-none e = rw (← n, ← k, d, e)
 
-      pub slot-none : (eqb tag boundary_output_tag && ltb i l.outputs.count) ≡ false → l.connectors.count + l.outputs.count ≡ slot_of (model_of s) tag i
-      unfolding slot_of
-      slot-none e = rw (← (connectors-counted h), ← (outputs-counted h), d, e)
+-- an output that is one of o stands among the slots
+pub few-outputs : (tag i : ℕ) {o : ℕ} → (eqb tag boundary_output_tag && ltb i o) ≡ true → i < o
+few-outputs tag i {o} e = ltb-true i o (and_parts (eqb tag boundary_output_tag) (ltb i o) e).1
 
 -- ---- one record
 
-module _ {s : List ℕ} {l : Layout} (h : Laid s l) (f : List ℕ) (at : ℕ) {tag i j : ℕ} (et : tag ≡ byte f at) (ei : i ≡ le32 f (at + index_at)) (ej : j ≡ slot_of (model_of s) tag i) where
+module _ (s : List ℕ) (h : refusal s ≡ None) (f : List ℕ) (at : ℕ) {tag i j : ℕ} (et : tag ≡ byte f at) (ei : i ≡ le32 f (at + index_at)) (ej : j ≡ slot_of (model_of s) tag i) where
   named : j ≡ slot_at f at s
   unfolding slot_at
   named = rw (← et, ← ei) ej
 
-  module _ (k : l.connectors.count + l.outputs.count ≤ j) where
+  module _ (k : slot_count (model_of s) ≤ j) where
     no_slot : is_slot f at s ≡ false
     unfolding is_slot
-    no_slot = rw (← named, ← (count h)) (le-ltb j (l.connectors.count + l.outputs.count) k)
+    no_slot = rw (← named) (le-ltb j (slot_count (model_of s)) k)
 
     pub none-put : ◌≡◌ {A = ℕ} 0 (cond (is_slot f at s) 1 0)
     none-put = rw no_slot
@@ -77,13 +65,10 @@ module _ {s : List ℕ} {l : Layout} (h : Laid s l) (f : List ℕ) (at : ℕ) {t
     unfolding put_record
     none_left t = rw no_slot
 
-  module _ (k : j < l.connectors.count + l.outputs.count) where
+  module _ (k : j < slot_count (model_of s)) where
     a-slot : is_slot f at s ≡ true
     unfolding is_slot
-    a-slot = rw (← named, ← (count h)) (lt-ltb j (l.connectors.count + l.outputs.count) k)
-
-    pub slot-inside : j < slot_count (model_of s)
-    slot-inside = rw (← (count h)) k
+    a-slot = rw (← named) (lt-ltb j (slot_count (model_of s)) k)
 
     pub one-put : ◌≡◌ {A = ℕ} 1 (cond (is_slot f at s) 1 0)
     one-put = rw a-slot
@@ -94,9 +79,9 @@ module _ {s : List ℕ} {l : Layout} (h : Laid s l) (f : List ℕ) (at : ℕ) {t
 
     pub one-fits : {to n : ℕ} {a : List ℕ} → to ≡ get_or (slot_offsets s) j 0 → a ≡ take attrs_length (drop (at + attributes_at) f) → length s ≤ n → to + length a ≤ n
     one-fits {a = a} o b n =
-        let q : j < connector_slots s + output_slots s = rw (← (connectors-length s), ← (outputs-length s)) slot-inside in
+        let q : j < connector_slots s + output_slots s = rw (← (connectors-length s), ← (outputs-length s)) k in
         let w : length a ≤ attrs_length = rw (b, length-take) (omega arith) in
-        omega (arith, slots-fit s (accepted s h.accepted) j q)
+        omega (arith, slots-fit s (accepted s h) j q)
 
 -- ---- records one after the other
 
@@ -180,15 +165,15 @@ module _ (f s : List ℕ) (acc : Accepted s) where
   unfolding starts_with
   front at n b = ap (take (length s)) (records-start at n b) ∙ take_at (put_records f at s n s) _ (length s) (records-length at n)
 
-module _ {s : List ℕ} {l : Layout} (h : Laid s l) where
+module _ (s : List ℕ) (h : refusal s ≡ None) where
   pub image-short : length s ≤ longest_image
-  image-short = (accepted s h.accepted).short
+  image-short = (accepted s h).short
 
   pub image-same : (f : List ℕ) (at n : ℕ) (blank filled : List ℕ) {e₁ e₂ ours theirs : List ℕ} {slots : ℕ} {t : Bool} → slots ≡ slots_among f at s n → e₂ ≡ put_records f at s n e₁ → e₁ ≡ patch blank 0 s
       → t ≡ same ours theirs → ours ≡ take (length s) (drop 0 e₂) → theirs ≡ take (length s) (drop 0 filled) → take (length s) filled ≡ filled_of s
       → (eqb slots n && t) ≡ (eqb (slots_among f at s n) n && same (put_records f at s n s) (filled_of s))
   image-same f at n blank filled es e₂ e₁ et eo eh ef =
-      rw (et, es, eo, eh, ef, e₂, e₁, ← (starts_with-patch s blank), front f s (accepted s h.accepted) at n blank)
+      rw (et, es, eo, eh, ef, e₂, e₁, ← (starts_with-patch s blank), front f s (accepted s h) at n blank)
 
 -- ---- where they end
 
@@ -223,6 +208,5 @@ module _ (f : List ℕ) (at n end : ℕ) (s : List ℕ) where
     filled-same er h k = er ∙ sym (rw (le-leb end (length f) k, ← e, h))
 
   -- an image that is accepted isn't refused
-  pub filled-refused : {a : Acceptance} {number offset : ℕ} → a ≡ acceptance s → a ≡ Refused number offset → refusal s ≡ None → false ≡ filled_agrees f at n end s
-  unfolding acceptance
-  filled-refused {a} {number} {offset} e h q = let z : a ≡ accepts s None = e ∙ ap (accepts s) q in cc
+  pub filled-refused : {r : Refusal} → refusal s ≡ Some r → refusal s ≡ None → false ≡ filled_agrees f at n end s
+  filled-refused {r} e q = absurd (some-ne-none r (sym e ∙ q))

@@ -5,7 +5,7 @@ use Rattle.base.specs.Buffers.{patch}
 use Rattle.numbers.specs.Bytes.{byte, le32}
 use Rattle.oce_model.specs.Format.{connector_tag, boundary_output_tag, attrs_length}
 use Rattle.oce_model.specs.Model.{Model, model_of, connector_count, boundary_output_count}
-use Rattle.unify_slots.specs.Table.{slot_count}
+use Rattle.unify_slots.specs.Slots.{slot_count}
 use Rattle.outcome.specs.Filled.{slot_offsets, filled_of}
 
 -- tag 1, zero bytes 3, index 4, attributes 32

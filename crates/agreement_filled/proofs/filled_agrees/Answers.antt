@@ -1,7 +1,5 @@
--- `agreement_filled::filled_agrees` meets its contract: records that end with the stored one, and the image with them.
 use borrow.Author.Rules.{rules}
 use borrow.Author.Tests.{not-true, not-false}
-use Rattle.image_accept.proofs.Answers.{accepted-laid}
 use Rattle.agreement_filled.proofs.Laws.{reach-inside, filled-past, filled-astray, filled-same, filled-refused}
 use Rattle.agreement_filled.proofs.filled_agrees.Goals as goal
 
@@ -14,10 +12,14 @@ returns-then-not-records_reach c = search (filled-astray, not-true, rules)
 pub image_agrees-requires : goal.image_agrees-requires
 image_agrees-requires c =
     let reach = c.records_reach in
-    (reach-inside c.args.file.now c.args.at c.args.count c.args.end reach.ensures c.if-not-records_reach.false c.if-file-end.false, search (accepted-laid, rules), search rules)
+    let e = c.in-Ok.ensures in
+    (reach-inside c.args.file.now c.args.at c.args.count c.args.end reach.ensures c.if-not-records_reach.false c.if-file-end.false, rw e.0 e.1, rw e.0 c.requires.1)
 
-pub returns-in-Refused : goal.returns-in-Refused
-returns-in-Refused c = search (filled-refused, rules)
+pub returns-in-Err : goal.returns-in-Err
+returns-in-Err c = filled-refused _ _ _ _ _ c.in-Err.ensures c.requires.0
 
-pub returns-in-Accepted : goal.returns-in-Accepted
-returns-in-Accepted c = search (filled-same, not-false, rules)
+pub returns-in-Ok : goal.returns-in-Ok
+returns-in-Ok c =
+    let e = c.in-Ok.ensures in
+    let h = rw e.0 at c.image_agrees.ensures in
+    search (filled-same, not-false, rules)

@@ -1,20 +1,20 @@
--- `agreement_filled::put_record` meets its contract: its attributes where it is of a slot.
-use borrow.Author.Rules.{rules}
-use native.Mathlib.Omega.{arith}
-use Rattle.agreement_filled.proofs.Laws.{few-slots, none-put, none_left, slot-inside, one-put, one_left, one-fits}
+use Rattle.std.proofs.Common.{◌<◌, ◌≤◌, arith, rules}
+use Rattle.oce_model.specs.Model.{model_of}
+use Rattle.unify_slots.specs.Slots.{slot_count}
+use Rattle.agreement_filled.proofs.Laws.{none-put, none_left, one-put, one_left, one-fits}
 use Rattle.agreement_filled.proofs.put_record.Goals as goal
 
-pub overflow_add-layout : goal.overflow_add-layout
-overflow_add-layout c = let few = few-slots c.requires.1 in omega arith
-
-pub returns-then-layout-j : goal.returns-then-layout-j
-returns-then-layout-j c = (search (none-put, rules), search (none_left, rules), search rules)
-
-pub slot_offset-to-requires : goal.slot_offset-to-requires
-slot_offset-to-requires c = (search rules, search (slot-inside, rules))
+pub returns-then-slot_count-j : goal.returns-then-slot_count-j
+returns-then-slot_count-j c =
+    let k : slot_count (model_of c.args.image.now) ≤ c.slot_of-j.result = omega arith in
+    (none-put c.args.image.now c.requires.1 c.args.file.now c.args.at c.byte_at.ensures.0 c.at32.ensures.0 c.slot_of-j.ensures k, none_left c.args.image.now c.requires.1 c.args.file.now c.args.at c.byte_at.ensures.0 c.at32.ensures.0 c.slot_of-j.ensures k _, omega arith)
 
 pub copy_at-requires : goal.copy_at-requires
-copy_at-requires c = search (one-fits, rules)
+copy_at-requires c =
+    let k : c.slot_of-j.result < slot_count (model_of c.args.image.now) = omega arith in
+    one-fits c.args.image.now c.requires.1 c.args.file.now c.args.at c.byte_at.ensures.0 c.at32.ensures.0 c.slot_of-j.ensures k c.slot_offset-to.ensures c.part_of.ensures c.requires.2
 
 pub returns : goal.returns
-returns c = (search (one-put, rules), search (one_left, rules), search rules)
+returns c =
+    let k : c.slot_of-j.result < slot_count (model_of c.args.image.now) = omega arith in
+    (one-put c.args.image.now c.requires.1 c.args.file.now c.args.at c.byte_at.ensures.0 c.at32.ensures.0 c.slot_of-j.ensures k, one_left c.args.image.now c.requires.1 c.args.file.now c.args.at c.byte_at.ensures.0 c.at32.ensures.0 c.slot_of-j.ensures k _ c.copy_at.ensures c.slot_offset-to.ensures c.part_of.ensures, omega arith)

@@ -1,22 +1,16 @@
--- `agreement_filled::slot_of` meets its contract: by tag and index.
-use borrow.Author.Rules.{rules}
-use native.Mathlib.Omega.{arith}
-use Rattle.agreement_filled.proofs.Laws.{few-slots, few-outputs, slot-connector, slot-output, slot-none}
+use Rattle.std.proofs.Common.{◌<◌, arith}
+use Rattle.oce_model.specs.Model.{model_of}
+use Rattle.agreement_filled.proofs.Laws.{few-outputs, slot-connector, slot-output, slot-none}
 use Rattle.agreement_filled.proofs.slot_of.Goals as goal
 
-ruleset mine = (slot-connector, slot-output, slot-none, rules)
-
 pub returns-then-tag-i : goal.returns-then-tag-i
-returns-then-tag-i c = search mine
+returns-then-tag-i c = slot-connector (model_of c.args.image.now) _ _ c.connector_count-connectors.ensures.0 c.if-tag-i.true
 
 pub overflow_add-result : goal.overflow_add-result
-overflow_add-result c = let few = few-outputs c.requires c.args.tag c.args.i c.if-tag-i-2.true in omega arith
+overflow_add-result c = let few : c.args.i < c.boundary_output_count-outputs.result = few-outputs c.args.tag c.args.i c.if-tag-i-2.true in omega arith
 
 pub returns-then-tag-i-2 : goal.returns-then-tag-i-2
-returns-then-tag-i-2 c = search mine
-
-pub overflow_add-result-2 : goal.overflow_add-result-2
-overflow_add-result-2 c = let few = few-slots c.requires in omega arith
+returns-then-tag-i-2 c = slot-output (model_of c.args.image.now) _ _ c.connector_count-connectors.ensures.0 c.boundary_output_count-outputs.ensures.0 c.if-tag-i.false c.if-tag-i-2.true
 
 pub returns : goal.returns
-returns c = search mine
+returns c = slot-none (model_of c.args.image.now) _ _ c.connector_count-connectors.ensures.0 c.boundary_output_count-outputs.ensures.0 c.if-tag-i.false c.if-tag-i-2.false
