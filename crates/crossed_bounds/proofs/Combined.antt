@@ -19,10 +19,9 @@ use Rattle.oce_model.specs.Format.{real_kind, integer_kind}
 use Rattle.crossed_bounds.specs.Ranges.{crossed_bounds, higher, lower, higher_integer, lower_integer, intersect, uncrossed, take_in, take_in_all, combined}
 use Rattle.crossed_bounds.specs.Values.{Datum, real, integer, boolean, string, enum, of_kind, not_below, not_above, inside_bounds, inside}
 use Rattle.crossed_bounds.specs.Counts.{bounds_kind, plain, inside_all}
-use Rattle.crossed_bounds.specs.Ends.{End}
+use Rattle.crossed_bounds.specs.Ends.{End, Range}
 use Rattle.crossed_bounds.specs.declared.Bounds.{Bounds}
 use Rattle.crossed_bounds.specs.declared.Bounds.TheVariants.{Real, Integer}
-use Rattle.crossed_bounds.specs.Ends.{Range}
 
 -- ---- one member more, from what is kept and that member
 

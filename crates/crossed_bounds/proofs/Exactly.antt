@@ -14,7 +14,7 @@ use lib.Ieee.{binary64, fits, of_bits}
 use lib.Ieee.Bits.{is_true, of_bits-fits}
 use lib.Ieee.Scale.{finite}
 use borrow.Author.Tests.{lt-ltb, le-ltb}
-use Rattle.base.specs.Lists.{any, all, only}
+use Rattle.base.specs.Lists.{all, only}
 use Rattle.base.proofs.Lists.{and_parts}
 use Rattle.numbers.specs.Bytes.{le64, signed64, real64}
 use Rattle.oce_model.specs.Format.{real_kind, integer_kind, min_bit, max_bit, head_min_at, head_max_at}
@@ -27,7 +27,7 @@ use Rattle.oce_diag.specs.declared.DiagCode.TheVariants.{CrossedBounds}
 use Rattle.crossed_bounds.specs.Ranges.{finite_end, real_end, real_range, or_default, integer_range, range_of, crossed, combined}
 use Rattle.crossed_bounds.specs.Values.{of_kind, fits64}
 use Rattle.crossed_bounds.specs.Groups.{Group, members}
-use Rattle.crossed_bounds.specs.CrossedBounds.{member_iri, member_attrs, member_external, group_faults, member_ranges, shared}
+use Rattle.crossed_bounds.specs.CrossedBounds.{member_iri, member_attrs, group_faults, member_ranges, shared}
 use Rattle.crossed_bounds.specs.Counts.{one_kind, counts, Common, NoCommon}
 use Rattle.crossed_bounds.specs.declared.Bounds.TheVariants.{Real}
 use Rattle.crossed_bounds.specs.Ends.{Range}

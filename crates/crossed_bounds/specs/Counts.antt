@@ -1,6 +1,5 @@
 -- When a group of 5.4 counts, and values that lie inside all of its ranges. FORMAT 14. That it is reported exactly if there is none is shown in proofs/Exactly.antt.
-use Rattle.std.specs.Prelude.{None, Some}
-use Rattle.std.specs.Prelude.{ℕ, ◌≡◌, Bool, true, false, not, ◌&&◌, ◌||◌, List, eqb}
+use Rattle.std.specs.Prelude.{None, Some, ℕ, ◌≡◌, Bool, true, false, not, ◌&&◌, ◌||◌, List, eqb}
 use Rattle.base.specs.Lists.{all}
 use Rattle.oce_model.specs.Format.{real_kind, integer_kind}
 use Rattle.oce_model.specs.Model.{Model}

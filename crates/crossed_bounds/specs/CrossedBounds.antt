@@ -3,7 +3,7 @@ use Rattle.std.specs.Prelude.{ℕ, ◌+◌, ◌-◌, Bool, cond, not, ◌&&◌, 
 use Rattle.base.specs.Lists.{each, tab, any, only}
 use Rattle.oce_model.specs.Format.{no_text}
 use Rattle.oce_model.specs.declared.Attrs.{Attrs}
-use Rattle.oce_model.specs.Model.{Connector, BoundaryInput, BoundaryOutput, Model, text, connector, boundary_input, boundary_output, connector_count, boundary_input_count, boundary_output_count, is_connector, is_in}
+use Rattle.oce_model.specs.Model.{Connector, Model, text, connector, boundary_input, boundary_output, connector_count, boundary_input_count, boundary_output_count, is_connector, is_in}
 use Rattle.oce_diag.specs.Diagnostics.{subject_of, error}
 use Rattle.oce_diag.specs.declared.Diagnostic.{Diagnostic}
 use Rattle.oce_diag.specs.declared.Subject.{Subject}

@@ -1,6 +1,5 @@
 -- The range of an attribute set, and when it is crossed. FORMAT 13; the Rust's `Bounds`.
-use Rattle.std.specs.Prelude.{ℕ, Bool, true, false, cond, ◌&&◌, List, [], ◌∷◌, eqb, ℤ}
-use Rattle.std.specs.Prelude.{Option, Some, None}
+use Rattle.std.specs.Prelude.{ℕ, Bool, true, false, cond, ◌&&◌, List, [], ◌∷◌, eqb, ℤ, Option, Some, None}
 use Rattle.std.specs.Int.Signed.{lt_z}
 use Rattle.std.specs.Float.Ieee.{lt}
 use Rattle.std.specs.Float.Ieee.Scale.{finite}
@@ -9,10 +8,9 @@ use Rattle.oce_model.specs.Format.{real_kind, integer_kind, min_bit, max_bit}
 use Rattle.oce_model.specs.Attributes.{declared_at}
 use Rattle.oce_model.specs.declared.Attrs.{Attrs}
 use Rattle.oce_model.specs.Model.{Defaults}
-use Rattle.crossed_bounds.specs.Ends.{End}
+use Rattle.crossed_bounds.specs.Ends.{End, Range}
 use Rattle.crossed_bounds.specs.declared.Bounds.{Bounds}
 use Rattle.crossed_bounds.specs.declared.Bounds.TheVariants.{Real, Integer}
-use Rattle.crossed_bounds.specs.Ends.{Range}
 
 -- ---- `Bounds::of`
 

@@ -1,6 +1,5 @@
 -- Values, and which of them are of a type and lie inside a range. FORMAT 5 and 13.
-use Rattle.std.specs.Prelude.{None, Some}
-use Rattle.std.specs.Prelude.{ℕ, ◌^◌, Bool, true, false, ◌&&◌, List, eqb, ltb, ℤ, Float}
+use Rattle.std.specs.Prelude.{None, Some, ℕ, ◌^◌, Bool, true, false, ◌&&◌, List, eqb, ltb, ℤ, Float}
 use Rattle.std.specs.Int.Signed.{mag, le_z}
 use Rattle.std.specs.Float.{binary64}
 use Rattle.std.specs.Float.Ieee.{le, fits}
@@ -9,10 +8,9 @@ use Rattle.base.specs.Lists.{all}
 use Rattle.numbers.specs.Bytes.{byte_range}
 use Rattle.oce_model.specs.Format.{real_kind, integer_kind, boolean_kind, string_kind, enum_kind}
 use Rattle.oce_model.specs.Model.{Connector}
-use Rattle.crossed_bounds.specs.Ends.{End}
+use Rattle.crossed_bounds.specs.Ends.{End, Range}
 use Rattle.crossed_bounds.specs.declared.Bounds.{Bounds}
 use Rattle.crossed_bounds.specs.declared.Bounds.TheVariants.{Real, Integer}
-use Rattle.crossed_bounds.specs.Ends.{Range}
 
 -- the Rust's `Some`, before its type is asked
 pub data Datum : Type 0 where

@@ -9,7 +9,7 @@ use mathlib.Core.List.{List, [], ◌∷◌, ◌++◌, append-nil}
 use Rattle.std.specs.Prelude.{Some, None}
 use lib.Dec.{eqb}
 use lib.ListN.{length, get_or, take, set, replicate, length-set, length-replicate, get_or-replicate}
-use lib.Seq.{take-suc-set, take_all, get_or-set_same, get_or-set_other}
+use lib.Seq.{take-suc-set, get_or-set_same, get_or-set_other}
 use borrow.Author.Tests.{eq-eqb, ne_eqb}
 use Rattle.base.specs.Lists.{each, tab, steps, only}
 use Rattle.base.proofs.Lists.{each_next, each_same, length-tab, get_or-tab, steps_next}
@@ -125,16 +125,6 @@ module _ {m : Model} {members₀ : List Member} where
     notes-turn {c} e w h =
         let t : take (x + 1) (set members x c) ≡ take x members ++ (c ∷ []) = rw (add-one x) (take-suc-set members x c h) in
         record { long = length-set members x c ∙ v.long; front = t ∙ rw (v.front, e, each_next x (λ j. member_value m j ∷ [])); notes = w }
-
-    pub notes-now : Noted m x column
-    notes-now = v.notes
-
-    module _ {n : ℕ} (e : length members₀ ≡ n) (h : x ≡ length members₀) where
-      pub notes-members : members ≡ tab n (member_value m)
-      notes-members = sym (take_all x members (omega (arith, v.long))) ∙ v.front ∙ rw (h, e)
-
-      pub notes-all : Noted m n column
-      notes-all = rw (← e, ← h) v.notes
 
 -- ---- collecting
 

@@ -1,7 +1,6 @@
 -- The members of rule 5.4 in buckets by the bytes of their iris: members with one iri are in one bucket, so a group that is reported is in a bucket
 -- of several members, one of them external.
-use Rattle.std.specs.Prelude.{ℕ, ◌-◌, ◌%◌, ◌<◌, ◌≡◌, Bool, true, false, cond, ◌&&◌, List, eqb, length, get_or}
-use Rattle.std.specs.Prelude.{Option, Some, None}
+use Rattle.std.specs.Prelude.{ℕ, ◌-◌, ◌%◌, ◌<◌, ◌≡◌, Bool, true, false, cond, ◌&&◌, List, eqb, length, get_or, Option, Some, None}
 use Rattle.base.specs.Lists.{each, steps, only}
 use Rattle.numbers.specs.Bytes.{le64}
 use Rattle.oce_model.specs.Model.{Model}

@@ -1,6 +1,6 @@
 -- Members are noted one by one.
 use borrow.Author.Rules.{rules}
-use Rattle.crossed_buckets.proofs.Laws.{notes-start, notes-turn, notes-now, notes-members, notes-all}
+use Rattle.crossed_buckets.proofs.Laws.{notes-start, notes-turn}
 use Rattle.crossed_buckets.proofs.note_all.Goals as goal
 
 pub loop-x-init : goal.loop-x-init
@@ -8,9 +8,3 @@ loop-x-init c = search (notes-start, rules)
 
 pub loop-x-preserved : goal.loop-x-preserved
 loop-x-preserved c = search (notes-turn, rules)
-
-pub note_one-requires : goal.note_one-requires
-note_one-requires c = search (notes-now, rules)
-
-pub returns : goal.returns
-returns c = search (notes-members, notes-all, rules)
