@@ -4,9 +4,7 @@
 ghost use Rattle.std.specs.Prelude.{◌≡◌, ◌<◌};
 ghost use Rattle.unify.specs.Details.{detail_number, kind_of, bit_of, is_text};
 
-use oce_model::{
-    DISPLAY_UNIT_BIT, Kind, MAX_BIT, MIN_BIT, NUMBER_COUNT, QUANTITY_BIT, UNIT_BIT,
-};
+use oce_model::{DISPLAY_UNIT_BIT, Kind, MAX_BIT, MIN_BIT, NUMBER_COUNT, QUANTITY_BIT, UNIT_BIT};
 
 // The details 6.1 to 6.7, in their order. The Rust's `RealAttr` and `IntAttr`, and the display unit.
 #[derive(Clone, Copy, PartialEq, Eq, Debug)]

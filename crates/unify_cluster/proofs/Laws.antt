@@ -121,12 +121,6 @@ module _ {m : Model} {c : ClusterMembers} {σ₀ : Slots} {r₀ : Report} where
   turns-start y = record { stands = y; slots = refl; done = []; faults = refl; puts = puts-none }
 
   module _ {σ : Slots} {r : Report} {i : ℕ} (v : Turns m c σ₀ r₀ σ r i) where
-    pub turns-stands : Stands m σ c
-    turns-stands = v.stands
-
-    pub turns-room : Room unified_count r₀ → i < unified_count → Room 1 r
-    turns-room h l = omega (arith, v.puts.few)
-
     rest : i < unified_count → drop i unified_details ≡ get_or unified_details i Unit ∷ drop (i + 1) unified_details
     rest h = rw add-one (drop-cons unified_details i Unit (rw unified-count h))
 

@@ -4,7 +4,7 @@ use native.Mathlib.Decide.{ℕ_discrete}
 use native.Mathlib.Omega.{arith}
 use mathlib.Core.Path.{◌≡◌, sym, ◌∙◌}
 use mathlib.Core.Bool.{cond, ◌||◌}
-use mathlib.Core.List.{List, ◌++◌}
+use mathlib.Core.List.{◌++◌}
 use lib.Dec.{ltb}
 use lib.ListN.{length, replicate, length-replicate, get_or-replicate}
 use borrow.Author.Tests.{lt-ltb, le-ltb}

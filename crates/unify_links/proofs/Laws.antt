@@ -15,8 +15,7 @@ use borrow.Author.Tests.{eq-eqb, ne_eqb, lt-ltb, le-ltb, ltb-true, ltb-false}
 use Rattle.base.specs.Lists.{each, only}
 use Rattle.base.proofs.Lists.{and_parts, each_next, each-add, each_same}
 use Rattle.oce_model.specs.Format.{dir_in}
-use Rattle.oce_model.specs.Attributes.{attrs_at}
-use Rattle.oce_model.specs.Model.{Connection as ModelConnection, BoundaryOutput, Model, model_of, connector, connection, boundary_output, connector_count, connection_count, boundary_output_count, is_connector}
+use Rattle.oce_model.specs.Model.{Connection as ModelConnection, BoundaryOutput, Model, connector, connection, boundary_output, connector_count, connection_count, boundary_output_count, is_connector}
 use Rattle.oce_model.specs.declared.Connection.{Connection}
 use Rattle.oce_model.specs.declared.ConnectorId.{ConnectorId}
 use Rattle.oce_model.specs.declared.ConnectorFront.{ConnectorFront}
@@ -43,9 +42,6 @@ no-root : {r : ℕ} → None ≡ root_at r → ⊥
 no-root e = omega (arith, ap (λ (x : Option ConnectorId). number x) e)
 
 -- ---- roots and targets, as code reads them
-
-pub degree-there : {m : Model} {ds : List ℕ} {n t : ℕ} → Degrees m ds → n ≡ connector_count m → t < n → t < length ds
-degree-there g e k = omega (arith, g.room)
 
 module _ (m : Model) {n : ℕ} (en : n ≡ connector_count m) where
   module _ {ds : List ℕ} (g : Degrees m ds) (k : ℕ) {q : Connection} (eq : q ≡ connection_read (connection m k)) where
@@ -233,20 +229,6 @@ leads-past m r i k n v = record {
 leads-here : (m : Model) (r i : ℕ) → i < link_count m → root_of m i ≡ root_at r → Leads m r i i
 leads-here m r i h e = record { above = omega arith; hits = λ _. e; found = λ _. refl; missing = λ l. absurd (omega arith) }
 
--- before any link
-linked-start : (m : Model) (head next : List ℕ) → Empty m head → connector_count m ≤ length head → link_count m ≤ length next → Linked m (link_count m) head next
-linked-start m head next z a b = record {
-  heads = λ r h. record {
-    above = z.none r h;
-    hits = λ k. absurd (omega (arith, z.none r h));
-    found = λ k. absurd (omega (arith, z.none r h));
-    missing = λ _. refl;
-  };
-  nexts = λ k r g h. absurd (omega arith);
-  room = a;
-  room' = b;
-}
-
 -- a link that belongs to no root
 linked-skip : {m : Model} {k : ℕ} {head next : List ℕ} → Linked m (k + 1) head next → None ≡ root_of m k → Linked m k head next
 linked-skip {m} {k} {head} {next} v none = record {
@@ -335,9 +317,6 @@ module _ {m : Model} {k : ℕ} {head next : List ℕ} (v : Linked m (k + 1) head
     pub link-push : {head' next' : List ℕ} → head' ≡ set head root.0 k → next' ≡ set next k (get_or head root.0 0) → Linked m k head' next'
     link-push eh en = linked-push v (sym of ∙ e) there b eh en
 
-pub next-there : (m : Model) (k : ℕ) {head next : List ℕ} → Linked m (k + 1) head next → k < link_count m → k < length next
-next-there m k v a = omega (arith, v.room')
-
 -- ---- gathering a cluster
 
 inside_one : (s x : ℕ) → x < s → Inside s (x ∷ [])
@@ -385,14 +364,11 @@ gathers-start m {links} {r} members {head} {next} v h room e = go (v.heads r h) 
     }
 
 module _ {m : Model} {links r : ℕ} {members : List ℕ} {c k : ℕ} (g : Gathers m links r members c k) where
-  pub gathers-link : k < links → k < link_count m
+  gathers-link : k < links → k < link_count m
   gathers-link h = rw (← g.count) h
 
-  pub gathers-room : k < links → c < length members
+  gathers-room : k < links → c < length members
   gathers-room h = let h' : k < link_count m = gathers-link h in omega (arith, g.fits h', g.room)
-
-  pub gathers-next : {head next : List ℕ} → Linked m 0 head next → k < links → k < length next
-  gathers-next v h = let h' : k < link_count m = gathers-link h in omega (arith, v.room')
 
   pub gathers-turn : {head next : List ℕ} {t : ℕ} → t ≡ target_of m k → Linked m 0 head next → k < links
       → Gathers m links r (set members c t) (c + 1) (get_or next k 0)

@@ -1,7 +1,7 @@
 -- Links, which join slots to the roots of their clusters (FORMAT 15), and lists of them. The links have one numbering: the connections, and behind them the boundary outputs.
 use Rattle.std.specs.Prelude.{Option}
 use Rattle.std.specs.Prelude.{None, Some}
-use Rattle.std.specs.Prelude.{ℕ, ◌+◌, ◌-◌, ◌≤◌, ◌<◌, ◌≡◌, Bool, false, cond, List, ◌∷◌, length, get_or, take, eqb, ltb}
+use Rattle.std.specs.Prelude.{ℕ, ◌+◌, ◌-◌, ◌≤◌, ◌<◌, ◌≡◌, Bool, false, cond, List, ◌∷◌, length, get_or, eqb, ltb}
 use Rattle.base.specs.Lists.{each, only}
 use Rattle.oce_model.specs.Model.{Connection, BoundaryOutput, Model, connection, boundary_output, connector_count, connection_count, boundary_output_count}
 use Rattle.unify.specs.Clusters.{drives, sound, driven}

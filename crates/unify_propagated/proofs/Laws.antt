@@ -1,14 +1,13 @@
 -- Laws of 6.8.
-use Prim.Native.Nat.{ℕ, ◌+◌, ◌*◌, ◌≤◌, ◌<◌}
+use Prim.Native.Nat.{ℕ}
 use native.Mathlib.Omega.{arith}
-use mathlib.Core.Path.{◌≡◌, refl, sym, ◌∙◌}
-use mathlib.Core.Bool.{Bool, true, false, ◌&&◌}
-use mathlib.Core.List.{List, [], ◌∷◌}
+use mathlib.Core.Path.{◌≡◌, ◌∙◌}
+use mathlib.Core.Bool.{Bool, true, false}
+use mathlib.Core.List.{[], ◌∷◌}
 use lib.ListN.{length}
-use Rattle.oce_model.specs.Format.{most_connectors}
 use Rattle.oce_model.specs.Model.{Model, connector, connector_count}
 use Rattle.oce_diag.specs.Diagnostics.{subject_of, error}
-use Rattle.oce_diag.specs.Reporting.{Room, Puts, Turns}
+use Rattle.oce_diag.specs.Reporting.{Puts, Turns}
 use Rattle.oce_diag.specs.declared.DiagCode.TheVariants.{CrossedBounds}
 use Rattle.oce_diag.specs.declared.Diagnostic.{Diagnostic}
 use Rattle.oce_diag.specs.declared.Subject.{Subject}

@@ -2,7 +2,7 @@
 use Rattle.std.proofs.Common.{arith}
 use Rattle.oce_model.specs.Model.{model_of}
 use Rattle.unify_links.proofs.Laws.{linked-headed}
-use Rattle.unify_clusters.proofs.Laws.{heads-empty, heads-room, nexts-room, members-room, unified-tested, unified-not}
+use Rattle.unify_clusters.proofs.Laws.{heads-empty, heads-room, nexts-room, unified-tested, unified-not}
 use Rattle.unify_clusters.proofs.linked_roots.Goals as goal
 
 pub whole_as_slice-link_all : goal.whole_as_slice-link_all

@@ -1,5 +1,4 @@
 -- `unify_links::connection_root` meets its contract.
-use Rattle.std.proofs.Common.{rules}
 use Rattle.oce_model.specs.Model.{model_of}
 use Rattle.unify_links.proofs.Laws.{connection-drives, connection-from, connection-to, connection-degree}
 use Rattle.unify_links.proofs.connection_root.Goals as goal
