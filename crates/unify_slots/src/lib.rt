@@ -16,8 +16,9 @@ use unify::Detail;
 pub fn declared(a: &Attrs, detail: Detail) -> Option<u64>
     ensures { result ≡ value detail a.now }
 {
-    if a.kind == detail.kind() && a.is_marked(detail.bit()) {
-        Some(a.number(detail.bit()))
+    let p = detail.bit();
+    if a.kind == detail.kind() && a.is_marked(p) {
+        Some(a.number(p))
     } else {
         None
     }
