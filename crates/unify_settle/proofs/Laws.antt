@@ -4,6 +4,7 @@ use native.Mathlib.Numerals.{add-one}
 use mathlib.Core.Path.{◌≡◌, refl, sym, ◌∙◌}
 use mathlib.Core.Bool.{Bool, true, false, cond, not, ◌&&◌}
 use mathlib.Core.List.{List, [], ◌∷◌}
+use Rattle.std.specs.Option.{option_or}
 use Rattle.std.specs.Prelude.{Option, Some, None, Result, Ok, Err, is_err}
 use lib.ListN.{length, get_or, set, drop, drop_of_length-le}
 use lib.Seq.{drop-cons}
@@ -34,21 +35,21 @@ module _ (s : List ℕ) (d : Detail) (u v : ℕ) {t : Bool} (et : t ≡ is_text 
 
 module _ (ts : List (List ℕ)) (d : Detail) {x y : Option ℕ} where
   module _ {u v : ℕ} (ex : x ≡ Some u) (ey : y ≡ Some v) {t : Bool} (et : t ≡ agree ts d u v) where
-    pub joined-same : t ≡ true → Ok x ≡ joined ts d x y
+    pub joined-same : {z : Option ℕ} → z ≡ option_or x y → t ≡ true → Ok z ≡ joined ts d x y
     unfolding joined
-    joined-same e = rw (ex, ey, ← et, e)
+    joined-same ez e = rw (ez, ex, ey, ← et, e)
 
     pub joined-not : t ≡ false → disagreed ≡ joined ts d x y
     unfolding joined
     joined-not e = rw (ex, ey, ← et, e)
 
-  pub joined-first : {u : ℕ} → x ≡ Some u → y ≡ None → Ok x ≡ joined ts d x y
+  pub joined-first : {u : ℕ} {z : Option ℕ} → z ≡ option_or x y → x ≡ Some u → y ≡ None → Ok z ≡ joined ts d x y
   unfolding joined
-  joined-first ex ey = rw (ex, ey)
+  joined-first ez ex ey = rw (ez, ex, ey)
 
-  pub joined-next : x ≡ None → Ok y ≡ joined ts d x y
-  unfolding joined
-  joined-next ex = rw ex
+pub joined-next : (ts : List (List ℕ)) (d : Detail) {x : Option ℕ} (y : Option ℕ) {z : Option ℕ} → z ≡ option_or x y → x ≡ None → Ok z ≡ joined ts d x y
+unfolding joined
+joined-next ts d y ez ex = rw (ez, ex)
 
 -- ---- members
 

@@ -38,15 +38,8 @@ fn joined(
     ensures { result ≡ joined (model_of image.now).texts detail first next }
 {
     match (first, next) {
-        (Some(u), Some(v)) => {
-            if agrees(image, detail, u, v) {
-                Ok(first)
-            } else {
-                Err(Conflict)
-            }
-        }
-        (Some(_), None) => Ok(first),
-        (None, _) => Ok(next),
+        (Some(u), Some(v)) if !agrees(image, detail, u, v) => Err(Conflict),
+        _ => Ok(first.or(next)),
     }
 }
 

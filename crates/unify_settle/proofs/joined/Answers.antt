@@ -2,15 +2,16 @@
 use Rattle.oce_model.specs.Model.{model_of}
 use Rattle.unify_settle.proofs.Laws.{joined-same, joined-not, joined-first, joined-next}
 use Rattle.unify_settle.proofs.joined.Goals as goal
+use Rattle.unify_settle.proofs.joined.Goals.{in_default-via-in-Some-Some+else-not-agrees, in_default-via-in-Some+in_default, in_default-via-in_default}
 
-pub returns-then-agrees : goal.returns-then-agrees
-returns-then-agrees c = joined-same (model_of c.args.image.now).texts c.args.detail c.in-Some-Some.is-0 c.in-Some-Some.is-1 c.agrees.ensures c.if-agrees.true
+pub returns-in-Some-Some : goal.returns-in-Some-Some
+returns-in-Some-Some c = joined-not (model_of c.args.image.now).texts c.args.detail c.in-Some-Some.is-0 c.in-Some-Some.is-1 c.agrees.ensures c.if-not-agrees.true
 
-pub returns-else-agrees : goal.returns-else-agrees
-returns-else-agrees c = joined-not (model_of c.args.image.now).texts c.args.detail c.in-Some-Some.is-0 c.in-Some-Some.is-1 c.agrees.ensures c.if-agrees.false
-
-pub returns-in-Some-None : goal.returns-in-Some-None
-returns-in-Some-None c = joined-first (model_of c.args.image.now).texts c.args.detail c.in-Some-None.is-0 c.in-Some-None.is-1
-
-pub returns-in-None-default : goal.returns-in-None-default
-returns-in-None-default c = joined-next (model_of c.args.image.now).texts c.args.detail c.in-None-default.is-0
+pub returns-in_default : goal.returns-in_default
+returns-in_default c =
+    let ts = (model_of c.args.image.now).texts in
+    elim c.in_default.branch [
+      | in_default-via-in-Some-Some+else-not-agrees w ↦ joined-same ts c.args.detail w.in-Some-Some.is-0 w.in-Some-Some.is-1 w.agrees.ensures c.or.ensures w.if-not-agrees.false
+      | in_default-via-in-Some+in_default w ↦ joined-first ts c.args.detail c.or.ensures w.in_default.is-0 w.in_default.is-1
+      | in_default-via-in_default w ↦ joined-next ts c.args.detail c.args.next c.or.ensures w.in_default.is-0
+    ]
