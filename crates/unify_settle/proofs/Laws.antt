@@ -1,13 +1,13 @@
 -- Laws of one detail over one cluster.
-use Prim.Native.Nat.{ℕ, ◌+◌, ◌≤◌, ◌<◌}
+use Prim.Native.Nat.{ℕ, ◌+◌, ◌-◌, ◌≤◌, ◌<◌}
 use native.Mathlib.Numerals.{add-one}
+use native.Mathlib.Omega.{arith}
 use mathlib.Core.Path.{◌≡◌, refl, sym, ◌∙◌}
 use mathlib.Core.Bool.{Bool, true, false, cond, not, ◌&&◌}
 use mathlib.Core.List.{List, [], ◌∷◌}
-use Rattle.std.specs.Option.{option_or}
 use Rattle.std.specs.Prelude.{Option, Some, None, Result, Ok, Err, is_err}
-use lib.ListN.{length, get_or, set, drop, drop_of_length-le}
-use lib.Seq.{drop-cons}
+use lib.ListN.{length, length-drop, get_or, set, take, drop, drop_of_length-le}
+use lib.Seq.{drop-cons, get_or-drop, take_all}
 use lib.Dec.{eqb}
 use Rattle.base.specs.Lists.{all, same}
 use Rattle.oce_model.specs.Model.{model_of, text}
@@ -15,7 +15,8 @@ use Rattle.unify.specs.Details.{is_text}
 use Rattle.unify.specs.Slots.{Slots, slot, value, put, key, agree}
 use Rattle.unify.specs.Unify.{cons?, declarations, put_members, settle, fill, conflict}
 use Rattle.unify.specs.declared.Detail.{Detail}
-use Rattle.unify_settle.specs.Settle.{agreed, joined, disagreed}
+use Rattle.unify_settle.specs.Settle.{agreed, disagreed}
+use Rattle.unify_slots.specs.Slots.{Inside}
 use Rattle.unify_settle.specs.declared.Conflict.{Conflict}
 
 -- ---- agreement
@@ -33,24 +34,6 @@ module _ (s : List ℕ) (d : Detail) (u v : ℕ) {t : Bool} (et : t ≡ is_text 
       arm true = refl
       arm false = refl
 
-module _ (ts : List (List ℕ)) (d : Detail) {x y : Option ℕ} where
-  module _ {u v : ℕ} (ex : x ≡ Some u) (ey : y ≡ Some v) {t : Bool} (et : t ≡ agree ts d u v) where
-    pub joined-same : {z : Option ℕ} → z ≡ option_or x y → t ≡ true → Ok z ≡ joined ts d x y
-    unfolding joined
-    joined-same ez e = rw (ez, ex, ey, ← et, e)
-
-    pub joined-not : t ≡ false → disagreed ≡ joined ts d x y
-    unfolding joined
-    joined-not e = rw (ex, ey, ← et, e)
-
-  pub joined-first : {u : ℕ} {z : Option ℕ} → z ≡ option_or x y → x ≡ Some u → y ≡ None → Ok z ≡ joined ts d x y
-  unfolding joined
-  joined-first ez ex ey = rw (ez, ex, ey)
-
-pub joined-next : (ts : List (List ℕ)) (d : Detail) {x : Option ℕ} (y : Option ℕ) {z : Option ℕ} → z ≡ option_or x y → x ≡ None → Ok z ≡ joined ts d x y
-unfolding joined
-joined-next ts d y ez ex = rw (ez, ex)
-
 -- ---- members
 
 rest : (js : List ℕ) (i : ℕ) → i < length js → drop i js ≡ get_or js i 0 ∷ drop (i + 1) js
@@ -64,44 +47,58 @@ declarations-none : (d : Detail) (σ : Slots) → declarations d σ [] ≡ []
 unfolding declarations
 declarations-none d σ = refl
 
--- ---- the first that is declared, as far as all agrees
+-- ---- the first that is declared
 
-module _ (ts : List (List ℕ)) (d : Detail) where
-  agreed-first : (x : Option ℕ) → agreed ts d (cons? x []) ≡ Ok x
-  unfolding agreed all
-  agreed-first None = refl
-  agreed-first (Some v) = refl
+inside-drop : (n : ℕ) (js : List ℕ) (i : ℕ) → Inside n js → Inside n (drop i js)
+inside-drop n js i v = record { each = λ k h. rw (get_or-drop js i k 0) (v.each (i + k) (omega (arith, length-drop i js))) }
 
-  agreed-joined : (x y z : Option ℕ) (l : List ℕ) → joined ts d x y ≡ Ok z → agreed ts d (cons? x (cons? y l)) ≡ agreed ts d (cons? z l)
-  unfolding agreed joined all
-  agreed-joined None y z l e = let q : y ≡ z = cc in rw q
-  agreed-joined (Some u) None z l e = let q : Some u ≡ z = cc in rw (← q)
-  agreed-joined (Some u) (Some v) z l e = arm (agree ts d u v) e
-    where
-      arm : (b : Bool) → cond b (Ok (Some u)) disagreed ≡ Ok z → cond (b && all (agree ts d u) l) (Ok (Some u)) disagreed ≡ agreed ts d (cons? z l)
-      arm true e = let q : Some u ≡ z = cc in rw (← q) refl
-      arm false e = absurd (cc)
+module _ (d : Detail) (σ : Slots) (js : List ℕ) (i : ℕ) (w : declarations d σ js ≡ declarations d σ (drop i js)) {x : Option ℕ} where
+  pub first-next : i < length js → x ≡ value d (slot σ (get_or js i 0)) → x ≡ None → declarations d σ js ≡ declarations d σ (drop (i + 1) js)
+  first-next h ex e = w ∙ rw (declarations-rest d σ js i h, ← ex, e)
 
-  agreed-not : (x y : Option ℕ) (c : Conflict) (l : List ℕ) → joined ts d x y ≡ Err c → agreed ts d (cons? x (cons? y l)) ≡ disagreed
-  unfolding agreed joined all
-  agreed-not None y c l e = absurd (cc)
-  agreed-not (Some u) None c l e = absurd (cc)
-  agreed-not (Some u) (Some v) c l e = arm (agree ts d u v) e
-    where
-      arm : (b : Bool) → cond b (Ok (Some u)) disagreed ≡ Err c → cond (b && all (agree ts d u) l) (Ok (Some u)) disagreed ≡ disagreed
-      arm true e = absurd (cc)
-      arm false e = refl
+  pub first-found : {v : ℕ} → i < length js → x ≡ value d (slot σ (get_or js i 0)) → x ≡ Some v → Inside (length σ) js
+      → let behind = take (length js - (i + 1)) (drop (i + 1) js) in (declarations d σ js ≡ v ∷ declarations d σ behind) × Inside (length σ) behind
+  first-found h ex e y =
+      let q : take (length js - (i + 1)) (drop (i + 1) js) ≡ drop (i + 1) js = take_all (length js - (i + 1)) (drop (i + 1) js) (omega (arith, length-drop (i + 1) js)) in
+      rw q (w ∙ rw (declarations-rest d σ js i h, ← ex, e), inside-drop (length σ) js (i + 1) y)
 
-  module _ (σ : Slots) (js : List ℕ) (i : ℕ) (x : Option ℕ) (v : agreed ts d (declarations d σ js) ≡ agreed ts d (cons? x (declarations d σ (drop i js)))) where
-    module _ {y : Option ℕ} (h : i < length js) (ey : y ≡ value d (slot σ (get_or js i 0))) where
-      pub agreed-next : {z : Option ℕ} → Ok z ≡ joined ts d x y → agreed ts d (declarations d σ js) ≡ agreed ts d (cons? z (declarations d σ (drop (i + 1) js)))
-      agreed-next {z} e = v ∙ rw (declarations-rest d σ js i h, ← ey) (agreed-joined x y z (declarations d σ (drop (i + 1) js)) (sym e))
+pub first-none : (d : Detail) (σ : Slots) (js : List ℕ) (i : ℕ) → declarations d σ js ≡ declarations d σ (drop i js) → length js ≤ i → declarations d σ js ≡ []
+first-none d σ js i w h = w ∙ rw (drop_of_length-le js h) (declarations-none d σ)
 
-      pub agreed-differ : {c : Conflict} → Err c ≡ joined ts d x y → disagreed ≡ agreed ts d (declarations d σ js)
-      agreed-differ {c} e = sym (v ∙ rw (declarations-rest d σ js i h, ← ey) (agreed-not x y c (declarations d σ (drop (i + 1) js)) (sym e)))
+-- ---- agreement with it
 
-    pub agreed-done : length js ≤ i → Ok x ≡ agreed ts d (declarations d σ js)
-    agreed-done h = sym (v ∙ rw (drop_of_length-le js h, declarations-none d σ) (agreed-first x))
+module _ (ts : List (List ℕ)) (d : Detail) (v : ℕ) (σ : Slots) (js : List ℕ) (i : ℕ)
+    (w : all (agree ts d v) (declarations d σ js) ≡ all (agree ts d v) (declarations d σ (drop i js))) where
+  module _ (h : i < length js) {x : Option ℕ} (ex : x ≡ value d (slot σ (get_or js i 0))) where
+    pub agree-nothing : x ≡ None → all (agree ts d v) (declarations d σ js) ≡ all (agree ts d v) (declarations d σ (drop (i + 1) js))
+    agree-nothing e = w ∙ rw (declarations-rest d σ js i h, ← ex, e)
+
+    module _ {u : ℕ} (e : x ≡ Some u) {t : Bool} (et : t ≡ agree ts d v u) where
+      pub agree-next : t ≡ true → all (agree ts d v) (declarations d σ js) ≡ all (agree ts d v) (declarations d σ (drop (i + 1) js))
+      unfolding all
+      agree-next f = w ∙ rw (declarations-rest d σ js i h, ← ex, e, ← et, f)
+
+      pub agree-not : t ≡ false → false ≡ all (agree ts d v) (declarations d σ js)
+      unfolding all
+      agree-not f = sym (w ∙ rw (declarations-rest d σ js i h, ← ex, e, ← et, f))
+
+  pub agree-all : length js ≤ i → true ≡ all (agree ts d v) (declarations d σ js)
+  unfolding all
+  agree-all h = sym (w ∙ rw (drop_of_length-le js h, declarations-none d σ))
+
+module _ (ts : List (List ℕ)) (d : Detail) {vs : List ℕ} where
+  pub agreed-none : vs ≡ [] → Ok None ≡ agreed ts d vs
+  unfolding agreed
+  agreed-none e = rw e
+
+  module _ {v : ℕ} {us : List ℕ} (e : vs ≡ v ∷ us) {t : Bool} (et : t ≡ all (agree ts d v) us) where
+    pub agreed-some : t ≡ true → Ok (Some v) ≡ agreed ts d vs
+    unfolding agreed
+    agreed-some f = rw (e, ← et, f)
+
+    pub agreed-not : t ≡ false → disagreed ≡ agreed ts d vs
+    unfolding agreed
+    agreed-not f = rw (e, ← et, f)
 
 -- ---- filling
 

@@ -2,11 +2,12 @@
 #![tactic(auto)]
 
 ghost use Rattle.std.specs.Prelude.{◌≡◌, length, is_err};
+ghost use Rattle.base.specs.Lists.{all};
 ghost use Rattle.oce_model.specs.Model.{model_of};
 ghost use Rattle.unify.specs.Slots.{agree};
 ghost use Rattle.unify.specs.Unify.{declarations, conflict, put_members, fill};
 ghost use Rattle.unify_slots.specs.Slots.{Inside};
-ghost use Rattle.unify_settle.specs.Settle.{joined, agreed};
+ghost use Rattle.unify_settle.specs.Settle.{FirstOf, agreed};
 
 use image_records::Image;
 use oce_model::Attrs;
@@ -28,19 +29,45 @@ fn agrees(image: &Image, detail: Detail, u: u64, v: u64) -> bool
     }
 }
 
-// The first value declared, after one member more, if that agrees with it.
-fn joined(
-    image: &Image,
+// The first value that members declare for a detail, and the members behind the one that declares it.
+#[derive(Clone, Copy)]
+struct First<'a> {
+    value: u64,
+    rest: &'a [usize],
+}
+
+fn first_declared<'a>(
+    slots: &[Attrs],
+    members: &'a [usize],
     detail: Detail,
-    first: Option<u64>,
-    next: Option<u64>,
-) -> Result<Option<u64>, Conflict>
-    ensures { result ≡ joined (model_of image.now).texts detail first next }
+) -> Option<First<'a>>
+    requires { Inside (length slots.now) members.now }
+    ensures { FirstOf detail slots.now members.now result }
 {
-    match (first, next) {
-        (Some(u), Some(v)) if !agrees(image, detail, u, v) => Err(Conflict),
-        _ => Ok(first.or(next)),
+    for (i, j) in members.iter().enumerate() {
+        if let Some(value) = declared(&slots[*j], detail) {
+            return Some(First {
+                value,
+                rest: &members[i + 1..],
+            });
+        }
     }
+    None
+}
+
+// All that the members declare agrees with v.
+fn all_agree(image: &Image, slots: &[Attrs], members: &[usize], detail: Detail, v: u64) -> bool
+    requires { Inside (length slots.now) members.now }
+    ensures { result ≡ all (agree (model_of image.now).texts detail v) (declarations detail slots.now members.now) }
+{
+    for j in members {
+        if let Some(u) = declared(&slots[*j], detail) {
+            if !agrees(image, detail, v, u) {
+                return false;
+            }
+        }
+    }
+    true
 }
 
 // The first value that the members declare for a detail, if all that they declare agrees with it.
@@ -53,11 +80,16 @@ fn agreed(
     requires { Inside (length slots.now) members.now }
     ensures { result ≡ agreed (model_of image.now).texts detail (declarations detail slots.now members.now) }
 {
-    let mut first = None;
-    for j in members {
-        first = joined(image, detail, first, declared(&slots[*j], detail))?;
+    match first_declared(slots, members, detail) {
+        None => Ok(None),
+        Some(first) => {
+            if all_agree(image, slots, first.rest, detail, first.value) {
+                Ok(Some(first.value))
+            } else {
+                Err(Conflict)
+            }
+        }
     }
-    Ok(first)
 }
 
 // Each unset member takes v.

@@ -15,7 +15,7 @@ use Rattle.numbers.specs.Bytes.{bit}
 use Rattle.numbers.proofs.Bits.{mark-fits}
 use Rattle.oce_model.specs.Attributes.{no_attrs, num, declared_at, declare_at}
 use Rattle.oce_model.specs.declared.Attrs.{Attrs}
-use Rattle.oce_model.specs.Model.{Model, connector, boundary_output, connector_count}
+use Rattle.oce_model.specs.Model.{Model, connector, boundary_output, connector_count, boundary_output_count}
 use Rattle.unify.specs.Details.{kind_of, bit_of}
 use Rattle.unify.specs.Slots.{Slots, slots_of, slot, value, put}
 use Rattle.unify.specs.declared.Detail.{Detail}
@@ -70,25 +70,25 @@ module _ (d : Detail) (a : Attrs) {k : ℕ} (ek : k ≡ kind_of d) where
 pub marks-fit : (m p : ℕ) {r : Bool} → m < 256 → p < 6 → r ≡ bit m p → r ≡ false → Fits w8 (m + 1 * 2 ^ p % 256)
 marks-fit m p l h er e = record { fits = rw (weigh p h) (mark-fits 8 m p l (omega arith) (sym er ∙ e)) }
 
--- ---- the slot of a connector, of a boundary output
-
-module _ (m : Model) {n : ℕ} (en : n ≡ connector_count m) (j : ℕ) {a : Attrs} where
-  pub from-connector : a ≡ (connector m j).attrs → j < n → a ≡ slot (slots_of m) j
-  from-connector e h = e ∙ sym (slot-connector m j (rw (← en) h))
-
-  pub from-output : a ≡ (boundary_output m (j - n)).attrs → n ≤ j → a ≡ slot (slots_of m) j
-  from-output e h =
-      let q : j ≡ connector_count m + (j - n) = omega (arith, en) in
-      e ∙ sym (ap (slot (slots_of m)) q ∙ slot-out m (j - n))
-
--- ---- the loop that reads them
+-- ---- the loops that read them: the connectors', then the boundary outputs'
 
 module _ (m : Model) (l : Slots) (j : ℕ) (v : take j l ≡ take j (slots_of m)) (e : length l ≡ slot_count m) where
-  pub load-next : {a : Attrs} → j < length l → a ≡ slot (slots_of m) j → take (j + 1) (set l j a) ≡ take (j + 1) (slots_of m)
+  load-next : {a : Attrs} → j < length l → a ≡ slot (slots_of m) j → take (j + 1) (set l j a) ≡ take (j + 1) (slots_of m)
   unfolding slot
   load-next {a} h ea =
       let h' : j < length (slots_of m) = omega (arith, slots_length m) in
       rw (add-one j, take-suc-set l j a h, take-suc (slots_of m) j no_attrs h', v, ea)
 
+  pub load-connector : {a : Attrs} → a ≡ (connector m j).attrs → j < connector_count m → take (j + 1) (set l j a) ≡ take (j + 1) (slots_of m)
+  load-connector ea h = load-next (omega arith) (ea ∙ sym (slot-connector m j h))
+
   pub load-done : length l ≤ j → l ≡ slots_of m
   load-done h = sym (take_all j l h) ∙ v ∙ take_all j (slots_of m) (omega (arith, slots_length m))
+
+-- n are the connectors
+pub load-output : (m : Model) (l : Slots) (i : ℕ) {n : ℕ} {a : Attrs} → n ≡ connector_count m → take (n + i) l ≡ take (n + i) (slots_of m) → length l ≡ slot_count m
+    → a ≡ (boundary_output m i).attrs → i < boundary_output_count m → take (n + (i + 1)) (set l (n + i) a) ≡ take (n + (i + 1)) (slots_of m)
+load-output m l i {n} {a} en v e ea h =
+    let q : n + (i + 1) ≡ (n + i) + 1 = omega arith in
+    let ea' : a ≡ slot (slots_of m) (n + i) = rw en (ea ∙ sym (slot-out m i)) in
+    rw q (load-next m l (n + i) v e (omega arith) ea')

@@ -2,10 +2,10 @@
 // accepted image.
 #![tactic(auto)]
 
-ghost use Rattle.std.specs.Prelude.{◌≡◌, ◌+◌, ◌<◌, ◌≤◌, length};
+ghost use Rattle.std.specs.Prelude.{◌≡◌, ◌+◌, ◌≤◌, length};
 ghost use Rattle.oce_model.specs.Format.{most_connectors, most_boundary_outputs};
 ghost use Rattle.oce_model.specs.Model.{model_of};
-ghost use Rattle.unify.specs.Slots.{slots_of, slot, value, put};
+ghost use Rattle.unify.specs.Slots.{slots_of, value, put};
 ghost use Rattle.unify_slots.specs.Slots.{slot_count};
 
 use image_records::Image;
@@ -35,19 +35,6 @@ pub fn put(a: &mut Attrs, detail: Detail, v: u64)
     }
 }
 
-// Slot j of an accepted image.
-fn slot(image: &Image, j: usize) -> Attrs
-    requires { j < slot_count (model_of image.now) }
-    ensures { result ≡ slot (slots_of (model_of image.now)) j }
-{
-    let connectors = image.connector_count();
-    if j < connectors {
-        image.connector_attrs(ConnectorId(j as u32))
-    } else {
-        image.boundary_output_attrs(j - connectors)
-    }
-}
-
 // A slot before it is read.
 pub const NO_ATTRS: Attrs = Attrs {
     kind: 0,
@@ -67,7 +54,11 @@ pub fn load_slots(image: &Image, slots: &mut [Attrs])
     requires { length slots.old ≡ slot_count (model_of image.now) }
     ensures { slots.new ≡ slots_of (model_of image.now) }
 {
-    for (j, a) in slots.iter_mut().enumerate() {
-        *a = slot(image, j);
+    let connectors = image.connector_count();
+    for j in 0..connectors {
+        slots[j] = image.connector_attrs(ConnectorId(j as u32));
+    }
+    for i in 0..image.boundary_output_count() {
+        slots[connectors + i] = image.boundary_output_attrs(i);
     }
 }
