@@ -70,7 +70,7 @@ summary-there b o = rw (sym (get_or-drop o b refusal_place 0), number at_place, 
 -- ---- refusals of an image: a number from 1 to 8, and an offset that an image can have
 
 pub record Small (r : Refusal) : Type 0 where
-  pub Some : r.number ≢ 0
+  pub positive : r.number ≢ 0
   pub few : r.number < byte_range
   pub near : r.offset < word_range
 
@@ -114,7 +114,7 @@ from-small (suc j) k s r a b l h =
         let n : k ≡ r.number = cc in
         let m : x ≡ r.offset = cc in
         let w : x ≤ length s = first-within p (length s) s 0 0 0 x e in
-        record { Some = λ z. omega arith; few = omega arith; near = omega arith }
+        record { positive = λ z. omega arith; few = omega arith; near = omega arith }
 
 pub refusal-small : (s : List ℕ) (r : Refusal) → refusal s ≡ Some r → Small r
 unfolding refusal
@@ -128,14 +128,14 @@ refusal-small s r h = size (ltb (length s) shortest_image || ltb longest_image (
         let n : 2 ≡ r.number = cc in
         let m : stop s ≡ r.offset = cc in
         let w : stop s < length s = ltb-true (stop s) (length s) e in
-        record { Some = λ z. omega arith; few = omega arith; near = omega arith }
+        record { positive = λ z. omega arith; few = omega arith; near = omega arith }
     past false e l h = from-small 6 3 s r (omega arith) (omega arith) l h
 
     size : (b : Bool) → (ltb (length s) shortest_image || ltb longest_image (length s)) ≡ b → cond b (Some (record { number = 1; offset = 0 })) (cond (ltb (stop s) (length s)) (Some (record { number = 2; offset = stop s })) rest) ≡ Some r → Small r
     size true e h =
         let n : 1 ≡ r.number = cc in
         let m : 0 ≡ r.offset = cc in
-        record { Some = λ z. omega arith; few = omega arith; near = omega arith }
+        record { positive = λ z. omega arith; few = omega arith; near = omega arith }
     size false e h = past (ltb (stop s) (length s)) refl (ltb-false longest_image (length s) (or_parts (ltb (length s) shortest_image) (ltb longest_image (length s)) e).1) h
 
 -- ---- the summary of an image
@@ -157,4 +157,4 @@ module _ (t : List ℕ) where
     where
       arm : (o : Option Refusal) → refusal t ≡ o → answer_of (summary_by t o) ≡ answer_for t (length t) (report_size (report_of t)) o
       arm None e = rw (le-ltb (length t) (length t) (omega arith), le-ltb (report_size (report_of t)) (report_size (report_of t)) (omega arith))
-      arm (Some r) e = rw (ne_eqb r.number 0 (refusal-small t r e).some)
+      arm (Some r) e = rw (ne_eqb r.number 0 (refusal-small t r e).positive)

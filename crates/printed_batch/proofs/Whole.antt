@@ -72,7 +72,7 @@ printed-there t b f = arm (refusal t) refl
   where
     arm : (o : Option Refusal) → refusal t ≡ o → first_line (answer_of (summary_by t o)) ++ lines_from t (report_by t o ++ b) 0 (count_of (summary_by t o)) ≡ printed t (answer_of (summary_by t o))
     arm None e = rw (errors-warnings (report_of t), lines-there (report_of t) t b (report_of-fits t f e))
-    arm (Some r) e = rw (ne_eqb r.number 0 (refusal-small t r e).some, no_lines t b) (append-nil (first_line (answer.Refused r.number r.offset)))
+    arm (Some r) e = rw (ne_eqb r.number 0 (refusal-small t r e).positive, no_lines t b) (append-nil (first_line (answer.Refused r.number r.offset)))
 
 -- what is printed of its part is its text
 pub image-whole : (i : ℕ) (t b : List ℕ) → ((k : ℕ) → byte t k < byte_range) → length (image_output t) < word_range → image_pieces i t (image_output t ++ b) ≡ image_text i t

@@ -50,7 +50,7 @@ declarations-none d σ = refl
 -- ---- the first that is declared
 
 inside-drop : (n : ℕ) (js : List ℕ) (i : ℕ) → Inside n js → Inside n (drop i js)
-inside-drop n js i v = record { each = λ k h. rw (get_or-drop js i k 0) (v.each (i + k) (omega (arith, length-drop i js))) }
+inside-drop n js i v = record { each = λ k h. rw (get_or-drop i js k 0) (v.each (i + k) (omega (arith, length-drop i js))) }
 
 module _ (d : Detail) (σ : Slots) (js : List ℕ) (i : ℕ) (w : declarations d σ js ≡ declarations d σ (drop i js)) {x : Option ℕ} where
   pub first-next : i < length js → x ≡ value d (slot σ (get_or js i 0)) → x ≡ None → declarations d σ js ≡ declarations d σ (drop (i + 1) js)
