@@ -1,8 +1,7 @@
 // A model image checked, and its report printed in large pieces; or its fields listed.
 #![tactic(auto)]
 
-ghost use Rattle.std.specs.Prelude.{◌≡◌, ◌<◌, ◌≤◌, length, take, IfOk, OnOk};
-ghost use Rattle.std.proofs.Math.Option.{none};
+ghost use Rattle.std.specs.Prelude.{◌≡◌, ◌<◌, ◌≤◌, length, take, IfOk, OnOk, None};
 ghost use Rattle.std.specs.Io.KnownBytes.{Appends, Consumes};
 ghost use Rattle.numbers.specs.Bytes.{word_range};
 ghost use Rattle.oce_model.specs.Format.{text_tag, longest_image};
@@ -63,7 +62,7 @@ pub fn print_report<W: Write>(
     report: &[u8],
     count: usize,
 ) -> io::Result<()>
-    requires { (refusal image.now ≡ none) × (count < word_range) × Row report.now count }
+    requires { (refusal image.now ≡ None) × (count < word_range) × Row report.now count }
     ensures { OnOk result (Appends (W.contents to.old) (W.contents to.new) (lines_from image.now report.now 0 count)) }
 {
     let mut texts = [0usize; MOST_TEXTS];
