@@ -2,15 +2,15 @@
 // `Bounds::intersect` and the `try_fold` of `check_combined_input_domains`.
 #![tactic(auto)]
 
-ghost use Rattle.std.specs.Prelude.{◌≡◌, ◌<◌};
-ghost use Rattle.crossed_bounds.specs.Ranges.{crossed_ends, crossed_bounds, crossed, higher, lower, intersect, uncrossed, take_in, real_range, integer_range, range_of};
-ghost use Rattle.oce_model.specs.Attributes.{declared_at};
+ghost use Rattle.std.specs.Prelude.{◌≡◌};
+ghost use Rattle.crossed_bounds.specs.Ranges.{crossed_ends, crossed_bounds, crossed, higher, lower, intersect, uncrossed, take_in, range_of};
 ghost use Rattle.oce_model.specs.Model.{model_of};
+ghost use Rattle.crossed_ranges.specs.Read.{real_read, integer_read};
 
 use crossed_bounds::Bounds;
 use image_records::Image;
-use numbers::{int_of_bits, is_finite, real_of_bits};
-use oce_model::{Attrs, Kind, MAX_BIT, MIN_BIT, NUMBER_COUNT};
+use numbers::{is_finite, is_set};
+use oce_model::{Attrs, IntAttrs, Kind, MAX_BIT, MIN_BIT, RealAttrs};
 
 // ---- crossed: min is above max, by number
 
@@ -97,36 +97,27 @@ pub fn take_in(kept: Option<Bounds>, r: Option<Bounds>) -> Option<Bounds>
     intersect(kept?, uncrossed(r)?)
 }
 
-// ---- the range of attributes
-
-// The number under bit p, where that is set.
-#[tactic(auto, unfolding(oce_model::specs::Attributes::declared_at))]
-fn declared_at(a: &Attrs, p: usize) -> Option<u64>
-    requires { p < NUMBER_COUNT }
-    ensures { result ≡ declared_at a.now p }
-{
-    a.is_marked(p).then_some(a.number(p))
-}
+// ---- the range of attributes: the Rust's `Bounds::of`
 
 // The range of Real attributes; with an end that isn't finite there is none.
-#[tactic(auto, unfolding(crossed_bounds::specs::Ranges::real_range, crossed_bounds::specs::Ranges::real_end, crossed_bounds::specs::Ranges::finite_end))]
-fn real_range(a: &Attrs) -> Option<Bounds>
-    ensures { result ≡ real_range (declared_at a.now MIN_BIT) (declared_at a.now MAX_BIT) }
+#[tactic(auto, unfolding(crate::specs::Read::real_read))]
+pub fn real_range(a: RealAttrs) -> Option<Bounds>
+    ensures { result ≡ real_read a }
 {
-    let min = declared_at(a, MIN_BIT).map(real_of_bits);
-    let max = declared_at(a, MAX_BIT).map(real_of_bits);
+    let min = is_set(a.marks, MIN_BIT).then_some(a.min);
+    let max = is_set(a.marks, MAX_BIT).then_some(a.max);
     (min.is_none_or(is_finite) && max.is_none_or(is_finite)).then_some(Bounds::Real(min, max))
 }
 
 // The range of Integer attributes; min and max stand for an end that isn't set.
-#[tactic(auto, unfolding(crossed_bounds::specs::Ranges::integer_range))]
-fn integer_range(a: &Attrs, min: i64, max: i64) -> Bounds
-    ensures { Some result ≡ integer_range (record { min = min; max = max }) (declared_at a.now MIN_BIT) (declared_at a.now MAX_BIT) }
+#[tactic(auto, unfolding(crate::specs::Read::integer_read))]
+pub fn integer_range(a: IntAttrs, min: i64, max: i64) -> Option<Bounds>
+    ensures { result ≡ integer_read a min max }
 {
-    Bounds::Integer(
-        declared_at(a, MIN_BIT).map_or(min, int_of_bits),
-        declared_at(a, MAX_BIT).map_or(max, int_of_bits),
-    )
+    Some(Bounds::Integer(
+        if is_set(a.marks, MIN_BIT) { a.min } else { min },
+        if is_set(a.marks, MAX_BIT) { a.max } else { max },
+    ))
 }
 
 // The range of attributes, by the defaults of the image's head; `None` where they have none.
@@ -135,10 +126,10 @@ pub fn range_of(image: &Image, a: &Attrs) -> Option<Bounds>
     ensures { result ≡ range_of (model_of image.now).defaults a.now }
 {
     if a.kind == Kind::Real as u8 {
-        real_range(a)
+        real_range(a.real())
     } else if a.kind == Kind::Integer as u8 {
         let layout = image.layout();
-        Some(integer_range(a, layout.min, layout.max))
+        integer_range(a.integer(), layout.min, layout.max)
     } else {
         None
     }
