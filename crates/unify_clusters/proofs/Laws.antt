@@ -56,6 +56,3 @@ module _ (m : Model) {connectors links members : ℕ} (y : Roomy m connectors li
 
   pub nexts-room : link_count m ≤ length {A = ℕ} (replicate links 0)
   nexts-room = rw (length-replicate {A = ℕ} links 0) y.nexts
-
-  pub members-room : link_count m < length {A = ℕ} (replicate members 0)
-  members-room = rw (length-replicate {A = ℕ} members 0) y.gathered

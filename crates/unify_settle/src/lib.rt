@@ -29,18 +29,15 @@ fn agrees(image: &Image, detail: Detail, u: u64, v: u64) -> bool
     }
 }
 
-// The first value that members declare for a detail, and the members behind the one that declares it.
+// A value that is declared first, and the members behind the one that declares it.
 #[derive(Clone, Copy)]
 struct First<'a> {
     value: u64,
     rest: &'a [usize],
 }
 
-fn first_declared<'a>(
-    slots: &[Attrs],
-    members: &'a [usize],
-    detail: Detail,
-) -> Option<First<'a>>
+// The first value that the members declare for a detail, if any of them does.
+fn first_declared<'a>(slots: &[Attrs], members: &'a [usize], detail: Detail) -> Option<First<'a>>
     requires { Inside (length slots.now) members.now }
     ensures { FirstOf detail slots.now members.now result }
 {
@@ -55,7 +52,9 @@ fn first_declared<'a>(
     None
 }
 
-// All that the members declare agrees with v.
+// All that the members declare agrees with v. Inlined: clusters have few members, so that a call for each detail costs
+// as much as its work.
+#[inline(always)]
 fn all_agree(image: &Image, slots: &[Attrs], members: &[usize], detail: Detail, v: u64) -> bool
     requires { Inside (length slots.now) members.now }
     ensures { result ≡ all (agree (model_of image.now).texts detail v) (declarations detail slots.now members.now) }
@@ -71,6 +70,7 @@ fn all_agree(image: &Image, slots: &[Attrs], members: &[usize], detail: Detail, 
 }
 
 // The first value that the members declare for a detail, if all that they declare agrees with it.
+#[inline(always)]
 fn agreed(
     image: &Image,
     slots: &[Attrs],
