@@ -139,7 +139,7 @@ module _ {s : List ℕ} {r : Summary} (o : ℕ) (e : List ℕ) where
 -- a summary's field from the parts that code puts side by side
 pub field-parts : (r : Summary) {os es ws : List ℕ} → os ≡ to_le_bytes w32 r.at → es ≡ to_le_bytes w32 r.errors → ws ≡ to_le_bytes w32 r.warnings
     → 49 ∷ 13 ∷ 0 ∷ (r.refusal % 256) ∷ get_or os 0 0 ∷ get_or os 1 0 ∷ get_or os 2 0 ∷ get_or os 3 0 ∷ get_or es 0 0 ∷ get_or es 1 0 ∷ get_or es 2 0 ∷ get_or es 3 0
-        ∷ get_or ws 0 0 ∷ get_or ws 1 0 ∷ get_or ws 2 0 ∷ get_or ws 3 0 ∷ [] ≡ summary_bytes r
+    ∷ get_or ws 0 0 ∷ get_or ws 1 0 ∷ get_or ws 2 0 ∷ get_or ws 3 0 ∷ [] ≡ summary_bytes r
 unfolding summary_bytes le_bytes
 field-parts r x y z =
     let a = r.at in

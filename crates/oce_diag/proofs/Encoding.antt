@@ -24,7 +24,7 @@ report_bytes-length (d ∷ ds) =
 pub encoded : (d : Diagnostic) {s k a n : ℕ} {ns ps : List ℕ} → s ≡ severity_number d.severity → k ≡ code_number d.code → a ≡ subject_kind d.subject
     → n ≡ subject_number d.subject → ns ≡ to_le_bytes w32 n → ps ≡ to_le_bytes w32 d.place
     → 32 ∷ 16 ∷ 0 ∷ s ∷ k ∷ d.rule ∷ d.detail ∷ a ∷ 0 ∷ 0 ∷ 0 ∷ get_or ns 0 0 ∷ get_or ns 1 0 ∷ get_or ns 2 0 ∷ get_or ns 3 0 ∷ get_or ps 0 0 ∷ get_or ps 1 0 ∷ get_or ps 2 0 ∷ get_or ps 3 0 ∷ []
-        ≡ diagnostic_bytes d
+    ≡ diagnostic_bytes d
 unfolding diagnostic_bytes le_bytes
 encoded d e f g h x y =
     let m = subject_number d.subject in
