@@ -18,6 +18,7 @@ use Rattle.oce_diag.specs.Encoding.{diagnostic_size, report_bytes}
 use Rattle.oce_diag.proofs.Diagnostics.{errors-warnings}
 use Rattle.outcome.specs.Answer.{report_of}
 use Rattle.image_framing.specs.Walk.{after, end_of, start}
+use Rattle.image_framing.proofs.Walks.{walk_end}
 use Rattle.printed.specs.Pieces.{Row}
 use Rattle.printed.proofs.Row.{row-report}
 use Rattle.batch.specs.Fields.{image_in, images}
@@ -28,7 +29,7 @@ use Rattle.batch.specs.declared.BatchAnswer.TheVariants.{Refused, Written}
 use Rattle.batch.specs.declared.Summary.{Summary}
 use Rattle.batch_framing.specs.Clean.{Passing}
 use Rattle.batch_framing.proofs.Finds.{found-clean}
-use Rattle.batch_framing.proofs.Passes.{passing-start, passing_step, passing-fits, passing-few, passing-end}
+use Rattle.batch_framing.proofs.Passes.{passing-start, passing_step, passing-fits, passing-few, ahead-ord}
 use Rattle.printed.specs.Printed.{first_line, printed, lines_from}
 use Rattle.printed_batch.specs.PrintedBatch.{image_line, refusal_line, image_text, image_texts, printed_batch}
 use Rattle.printed_batch.specs.ReadBack.{summary_in, answer_of, count_of}
@@ -86,7 +87,7 @@ module _ {s out : List ℕ} {f : Field} {o : ℕ} {old new : Known (List ℕ)} (
   -- all of them
   pub printing-done : length s ≤ f.at → Appends old new (image_texts 0 (images s))
   unfolding image_texts
-  printing-done h = subst (Appends old new) (sym (v.all ∙ ap (λ (l : List Field). v.done ++ image_texts v.i (map (image_in s) l)) (passing-end v.pass h) ∙ append-nil v.done)) v.written
+  printing-done h = subst (Appends old new) (sym (v.all ∙ ap (λ (l : List Field). v.done ++ image_texts v.i (map (image_in s) l)) (walk_end v.pass.walk h) ∙ append-nil v.done)) v.written
 
   pub printing-fits : f.at < length s → end_of f ≤ length s
   printing-fits h = passing-fits v.pass h
@@ -157,20 +158,20 @@ module _ {s out : List ℕ} {f : Field} {o : ℕ} {old new : Known (List ℕ)} (
             done = v.done ++ image_text f.ord (image_in s f);
             written = Appends-trans old new next _ _ v.written w;
             all = v.all ∙ ap (λ (l : List Field). v.done ++ image_texts v.i (map (image_in s) l)) p.is
-                ∙ ap (λ (j : ℕ). v.done ++ (image_text j (image_in s f) ++ image_texts (v.i + 1) (map (image_in s) p.later))) (sym (v.pass.ord h))
+                ∙ ap (λ (j : ℕ). v.done ++ (image_text j (image_in s f) ++ image_texts (v.i + 1) (map (image_in s) p.later))) (sym (ahead-ord v.pass.ahead p.is))
                 ∙ sym (append_assoc v.done (image_text f.ord (image_in s f)) (image_texts (v.i + 1) (map (image_in s) p.later)));
           }
 
 -- ---- one image
 
 -- an image with diagnostics is accepted
-pub counted-accepted : (t : List ℕ) → 0 < count_of (summary_of t) → refusal t ≡ none
+pub counted-accepted : (t : List ℕ) → 0 < count_of (summary_of t) → refusal t ≡ None
 unfolding summary_of
 counted-accepted t h = arm (refusal t) refl h
   where
-    arm : (o : Option Refusal) → refusal t ≡ o → 0 < count_of (summary_by t o) → refusal t ≡ none
-    arm none e h = e
-    arm (some r) e h = absurd (omega arith)
+    arm : (o : Option Refusal) → refusal t ≡ o → 0 < count_of (summary_by t o) → refusal t ≡ None
+    arm None e h = e
+    arm (Some r) e h = absurd (omega arith)
 
 -- what is printed of it: its lines, and those of its report
 pub part-text : {s : List ℕ} {f : Field} {out : List ℕ} {o : ℕ} {r : Summary} → ((i : ℕ) → byte s i < byte_range) → Part s f out o r
