@@ -2,13 +2,13 @@
 use Prim.Native.Nat.{ℕ, suc, ◌+◌, ◌<◌, ◌≤◌}
 use native.Mathlib.Decide.{dec_lt}
 use native.Mathlib.Omega.{arith}
-use mathlib.Core.Path.{◌≡◌, sym, ap, ◌∙◌}
-use mathlib.Core.Bool.{Bool, true, false, ◌&&◌}
+use mathlib.Core.Path.{◌≡◌, refl, sym, ap, ◌∙◌}
+use mathlib.Core.Bool.{Bool, true, false, not, ◌&&◌}
 use mathlib.Core.List.{List, ◌∷◌, ◌++◌}
+use Rattle.std.specs.Prelude.{Some, None, Result, Ok, Err}
 use lib.Dec.{eqb}
 use lib.ListN.{length, take, drop, take-append-drop, length-take, get_or-eq_default}
 use lib.Seq.{drop-cons, get_or-take, get_or-drop}
-use borrow.Author.Tests.{lt-ltb, le-ltb, eq-eqb, ne_eqb}
 use Rattle.numbers.specs.Bytes.{word_range, byte, byte_range}
 use Rattle.oce_model.specs.Format.{longest_image}
 use Rattle.oce_model.proofs.Accepted.{accepted}
@@ -18,65 +18,55 @@ use Rattle.oce_diag.specs.declared.Diagnostic.{Diagnostic as OfReport}
 use Rattle.oce_diag.proofs.Diagnostics.{errors-warnings}
 use Rattle.oce_diag.proofs.Encoding.{report_bytes-length}
 use Rattle.oce_diag.proofs.Decoded.{report-back}
-use Rattle.outcome.specs.Answer.{report_of, answer}
-use Rattle.outcome.specs.declared.Answer.{Answer}
-use Rattle.outcome.specs.declared.Answer.TheVariants.{Refused, Checked}
+use Rattle.oce_model.specs.declared.Refusal.{Refusal}
+use Rattle.oce_diag.specs.declared.Counted.{Counted}
+use Rattle.outcome.specs.Answer.{Answer, report_of, answer}
 use Rattle.moved.specs.Moved.{Moved}
 use Rattle.moved.proofs.Bytes.{Bytes}
 use Rattle.moved.proofs.Moved.{checks}
 use Rattle.printed.proofs.Rules.{report_of-fits}
+use Rattle.stored.specs.declared.Results.{Results}
 use Rattle.stored.specs.declared.Record.{Record}
-use Rattle.agreement_diagnostics.specs.Diagnostics.{alike, place_of, Reported}
+use Rattle.agreement_diagnostics.specs.Diagnostics.{compared, Reported}
 use Rattle.agreement_filled.specs.Filled.{filled_agrees}
-use Rattle.agreement.specs.Agreement.{longest_report, refusal_agreement, parts_agreement, results_agreement, image_of, agreement, agreement_with, Leaves}
-use Rattle.agreement.specs.declared.Agreement.{Agreement}
-use Rattle.agreement.specs.declared.Agreement.TheVariants.{Same, Refusal, Counts, Diagnostic, Filled}
+use Rattle.agreement.specs.Agreement.{Agreement, longest_report, filled_agreement, accepted_agreement, results_agreement, image_of, agreement, agreement_with, Leaves}
+use Rattle.agreement.specs.declared.Difference.TheVariants.{Refusal as Refusals, Counts, Diagnostic, Filled}
 
--- ---- a refusal
+-- ---- counts, diagnostics, then the filled image
 
-module _ (r : Record) (number at : ℕ) where
-  pub refusal-same : (eqb r.answer.number number && eqb r.answer.offset at) ≡ true → Same ≡ refusal_agreement r number at
-  unfolding refusal_agreement
-  refusal-same e = rw e
+not_held : (b : Bool) → not b ≡ true → b ≡ false
+not_held false e = refl
+not_held true e = sym e
 
-  pub refusal-other : (eqb r.answer.number number && eqb r.answer.offset at) ≡ false → Refusal number at ≡ refusal_agreement r number at
-  unfolding refusal_agreement
-  refusal-other e = rw e
+held : (b : Bool) → not b ≡ false → b ≡ true
+held true e = refl
+held false e = sym e
 
--- ---- diagnostics, then the filled image
-
-module _ (f : List ℕ) (r : Record) (s : List ℕ) {count k at : ℕ} (ek : k ≡ alike f r.answer.diagnostics s (report_of s)) (ea : at ≡ place_of f r.answer.diagnostics k) (ec : count ≡ length (report_of s)) where
-  pub parts-differ : k < count → Diagnostic k ≡ parts_agreement f r s
-  unfolding parts_agreement
-  parts-differ h = sym (rw (← ek, ← ec, lt-ltb k count h))
-
-  module _ {t : Bool} (et : t ≡ filled_agrees f at r.answer.filled r.end s) (h : count ≤ k) where
-    pub parts_same : t ≡ true → Same ≡ parts_agreement f r s
-    unfolding parts_agreement
-    parts_same e = sym (rw (← ek, ← ec, le-ltb k count h, ← ea, ← et, e))
-
-    pub parts-filled : t ≡ false → Filled ≡ parts_agreement f r s
-    unfolding parts_agreement
-    parts-filled e = sym (rw (← ek, ← ec, le-ltb k count h, ← ea, ← et, e))
-
--- ---- counts
-
-pub leaves-count : {s : List ℕ} {e w : ℕ} {filled report : List ℕ} → Leaves s e w filled report → e + w ≡ length (report_of s)
+pub leaves-count : {s : List ℕ} {c : Counted} {filled report : List ℕ} → Leaves s c filled report → c.errors + c.warnings ≡ length (report_of s)
 leaves-count {s} v = let p = v.counts.0 in let q = v.counts.1 in omega (arith, errors-warnings (report_of s))
 
-module _ (f : List ℕ) (r : Record) {s : List ℕ} {e w : ℕ} {filled report : List ℕ} (v : Leaves s e w filled report) where
-  pub results-untold : r.answer.told ≡ 0 → Same ≡ results_agreement f r s
+module _ (f : List ℕ) (end : ℕ) (t : Results) {s : List ℕ} {c : Counted} {filled report : List ℕ} (v : Leaves s c filled report) where
+  abbrev pub same : Bool
+  same = eqb t.counted.errors c.errors && eqb t.counted.warnings c.warnings
+
+  pub results-counts : {x : Bool} → x ≡ not same → x ≡ true → Err Counts ≡ results_agreement f end t s
   unfolding results_agreement
-  results-untold h = sym (rw (eq-eqb _ _ h))
+  results-counts g k = let h = not_held same (sym g ∙ k) in sym (rw (← v.counts.0, ← v.counts.1, h))
 
-  module _ (h : r.answer.told ≡ 0 → ⊥) where
-    pub results-parts : {a : Agreement} → a ≡ parts_agreement f r s → (eqb r.answer.errors e && eqb r.answer.warnings w) ≡ true → a ≡ results_agreement f r s
+  module _ {x : Bool} (g : x ≡ not same) (k : x ≡ false) where
+    results-then : {a : Result ℕ ℕ} → a ≡ compared f t.diagnostics s (report_of s) → filled_agreement f end t s a ≡ results_agreement f end t s
     unfolding results_agreement
-    results-parts g t = g ∙ sym (rw (ne_eqb _ _ h, ← v.counts.0, ← v.counts.1, t))
+    results-then e = let h = held same (sym g ∙ k) in sym (rw (← v.counts.0, ← v.counts.1, h, ← e))
 
-    pub results-counts : (eqb r.answer.errors e && eqb r.answer.warnings w) ≡ false → Counts ≡ results_agreement f r s
-    unfolding results_agreement
-    results-counts t = sym (rw (ne_eqb _ _ h, ← v.counts.0, ← v.counts.1, t))
+    pub results-differ : {n : ℕ} → Err n ≡ compared f t.diagnostics s (report_of s) → Err (Diagnostic n) ≡ results_agreement f end t s
+    results-differ e = results-then e
+
+    module _ {at : ℕ} (e : Ok at ≡ compared f t.diagnostics s (report_of s)) {y : Bool} (d : y ≡ filled_agrees f at t.filled end s) where
+      pub results_same : y ≡ true → Ok tt ≡ results_agreement f end t s
+      results_same l = rw (sym d ∙ l) at (results-then e)
+
+      pub results-filled : y ≡ false → Err Filled ≡ results_agreement f end t s
+      results-filled l = rw (sym d ∙ l) at (results-then e)
 
 -- ---- what a check leaves
 
@@ -100,10 +90,10 @@ module _ (f : List ℕ) (stored : Record) (bytes : Bytes f) {s : List ℕ} (es :
           let n : length (image_of f stored) ≤ i = rw length-take (omega arith) in
           rw (get_or-eq_default (image_of f stored) 0 n) (omega arith)
 
-  pub check-leaves : (room many : ℕ) {a : Answer} {e w : ℕ} {filled report : List ℕ} → a ≡ answer s room many → Moved s a filled report → a ≡ Checked e w → length report ≡ longest_report → Leaves s e w filled report
-  check-leaves room many {a} {e} {w} {filled} {report} an m h l =
-      let k = checks s room many e w (sym an ∙ h) in
-      let v = m.left e w h in
+  pub check-leaves : (room many : ℕ) {a : Answer} {c : Counted} {filled report : List ℕ} → a ≡ answer s room many → Moved s a filled report → a ≡ Ok c → length report ≡ longest_report → Leaves s c filled report
+  check-leaves room many {a} {c} {filled} {report} an m h l =
+      let k = checks s room many c (sym an ∙ h) in
+      let v = m.left c h in
       record {
         accepted = k.accepted;
         short = (accepted s k.accepted).short;
@@ -114,16 +104,17 @@ module _ (f : List ℕ) (stored : Record) (bytes : Bytes f) {s : List ℕ} (es :
 
 -- ---- the whole
 
-module _ (f : List ℕ) (r : Record) {s : List ℕ} (es : s ≡ image_of f r) (room many : ℕ) {a : Answer} (ea : a ≡ answer s room many) (er : room ≡ longest_image) (em : many ≡ longest_report) where
-  whole : {b : Answer} → a ≡ b → agreement_with f r s b ≡ agreement f r
-  unfolding agreement
-  whole e = rw (← e, ea, er, em, es)
+pub whole : (f : List ℕ) (r : Record) {s : List ℕ} {a b : Answer} (room many : ℕ) → s ≡ image_of f r → a ≡ answer s room many → room ≡ longest_image → many ≡ longest_report → a ≡ b → agreement_with f r s b ≡ agreement f r
+unfolding agreement
+whole f r room many es ea er em e = rw (← e, ea, er, em, es)
 
-  pub compare-refused : {number at : ℕ} {x : Agreement} → a ≡ Refused number at → x ≡ refusal_agreement r number at → x ≡ agreement f r
-  compare-refused e g = g ∙ whole e
+-- an image that is accepted here
+module _ (f : List ℕ) (r : Record) (s : List ℕ) (c : Counted) (w : agreement_with f r s (Ok c) ≡ agreement f r) where
+  pub accepted-refused : {x : Refusal} → r.answer ≡ Err x → Err (Refusals None) ≡ agreement f r
+  accepted-refused e = sym (ap (accepted_agreement f r.end s) e) ∙ w
 
-  pub compare-accepted : {e w : ℕ} → a ≡ Checked e w → (r.answer.number ≡ 0 → ⊥) → Refusal 0 0 ≡ agreement f r
-  compare-accepted {e} {w} h n = rw (ne_eqb _ _ n) at (whole h)
+  pub accepted-untold : r.answer ≡ Ok None → Ok tt ≡ agreement f r
+  accepted-untold e = sym (ap (accepted_agreement f r.end s) e) ∙ w
 
-  pub compare-results : {e w : ℕ} {x : Agreement} → a ≡ Checked e w → r.answer.number ≡ 0 → x ≡ results_agreement f r s → x ≡ agreement f r
-  compare-results {e} {w} h n g = g ∙ (rw (eq-eqb _ _ n) at (whole h))
+  pub accepted-told : {t : Results} {x : Agreement} → r.answer ≡ Ok (Some t) → x ≡ results_agreement f r.end t s → x ≡ agreement f r
+  accepted-told e g = g ∙ sym (ap (accepted_agreement f r.end s) e) ∙ w

@@ -7,6 +7,8 @@ use mathlib.Core.Bool.{Bool, true, false, and-false}
 use mathlib.Core.List.{List}
 use lib.Dec.{eqb}
 use lib.ListN.{length, take, drop, drop_of_length-le}
+use borrow.Author.Tests.{lt-ltb, le-ltb}
+use Rattle.std.specs.Prelude.{Ok, Err}
 use Rattle.base.specs.Lists.{steps, same}
 use Rattle.base.proofs.Lists.{steps_next}
 use Rattle.numbers.specs.Bytes.{le16}
@@ -19,7 +21,7 @@ use Rattle.oce_diag.specs.declared.Diagnostic.{Diagnostic}
 use Rattle.oce_diag.specs.declared.Subject.{Subject}
 use Rattle.subject.specs.Subject.{least_scratch, scratch_after, part}
 use Rattle.subject.proofs.Laws.{read-written}
-use Rattle.agreement_diagnostics.specs.Diagnostics.{code_at, text_length_at, text_at, same_fields, same_subject, agrees, behind, place_of, alike, Reported, Agreed}
+use Rattle.agreement_diagnostics.specs.Diagnostics.{code_at, text_length_at, text_at, same_fields, same_subject, agrees, behind, place_of, alike, compared, Reported, Agreed}
 
 -- ---- one diagnostic
 
@@ -58,12 +60,13 @@ module _ {f : List ℕ} {start : ℕ} {s : List ℕ} {ds : List Diagnostic} wher
 
   module _ {at n : ℕ} (v : Agreed f start s ds at n) where
     -- the report has no more
-    pub agreed-end : {count : ℕ} → count ≡ length ds → count ≤ n → n ≡ alike f start s ds
-    unfolding alike
+    pub agreed-end : {count : ℕ} → count ≡ length ds → count ≤ n → Ok at ≡ compared f start s ds
+    unfolding alike compared
     agreed-end e h =
         let l : length ds ≤ n = omega arith in
         let z : alike f at s (drop n ds) ≡ 0 = rw (drop_of_length-le ds l) in
-        omega (arith, v.same)
+        let k : alike f start s ds ≡ n = omega (arith, v.same) in
+        rw (v.place, k, le-ltb n (length ds) l)
 
     module _ {report : List ℕ} (r : Reported ds report) {count : ℕ} (e : count ≡ length ds) (h : n < count) where
       here : n < length ds
@@ -74,7 +77,7 @@ module _ {f : List ℕ} {start : ℕ} {s : List ℕ} {ds : List Diagnostic} wher
       unfolding alike
       one g = rw (r.next n here, g)
 
-      pub agreed-turn : {d : Diagnostic} {t : Bool} {len : ℕ} → d ≡ diagnostic_at report n → t ≡ agrees f at s d → t ≡ true → len ≡ le16 f (at + text_length_at) → Agreed f start s ds (at + text_at + len) (n + 1)
+      pub agreed-turn : {d : Diagnostic} {t : Bool} {len : ℕ} → d ≡ diagnostic_at report n → t ≡ agrees f at s d → t ≡ true → len ≡ le16 f (at + text_length_at) → Agreed f start s ds (at + (text_at + len)) (n + 1)
       unfolding place_of
       agreed-turn {d} {t} {len} ed et g el =
           let a : agrees f at s (diagnostic_at report n) ≡ true = rw (← ed) (sym et ∙ g) in
@@ -86,14 +89,15 @@ module _ {f : List ℕ} {start : ℕ} {s : List ℕ} {ds : List Diagnostic} wher
           }
 
       -- one that doesn't
-      other : agrees f at s (diagnostic_at report n) ≡ false → n ≡ alike f start s ds
-      unfolding alike
+      other : agrees f at s (diagnostic_at report n) ≡ false → Err n ≡ compared f start s ds
+      unfolding alike compared
       other g =
           let z : alike f at s (drop n ds) ≡ 0 = rw (r.next n here, g) in
-          omega (arith, v.same)
+          let k : alike f start s ds ≡ n = omega (arith, v.same) in
+          rw (k, lt-ltb n (length ds) here)
 
-      pub agreed-differs : {d : Diagnostic} {t : Bool} → d ≡ diagnostic_at report n → t ≡ agrees f at s d → t ≡ false → n ≡ alike f start s ds
+      pub agreed-differs : {d : Diagnostic} {t : Bool} → d ≡ diagnostic_at report n → t ≡ agrees f at s d → t ≡ false → Err n ≡ compared f start s ds
       agreed-differs ed et g = other (rw (← ed) (sym et ∙ g))
 
-      pub agreed-past : length f < at → n ≡ alike f start s ds
+      pub agreed-past : length f < at → Err n ≡ compared f start s ds
       agreed-past g = other (past f at s (diagnostic_at report n) g)

@@ -1,6 +1,6 @@
 -- Stored diagnostics beside those of a report: docs/STORED_ANSWERS.md has their form, 16 bytes and the subject's text. Bytes past the file's end
 -- count as 0.
-use Rattle.std.specs.Prelude.{ℕ, suc, ◌+◌, ◌-◌, ◌<◌, ◌≤◌, ◌≡◌, Bool, cond, not, ◌&&◌, ◌||◌, List, [], ◌∷◌, eqb, length, take, drop}
+use Rattle.std.specs.Prelude.{ℕ, suc, ◌+◌, ◌-◌, ◌<◌, ◌≤◌, ◌≡◌, Bool, cond, not, ◌&&◌, ◌||◌, List, [], ◌∷◌, eqb, ltb, length, take, drop, Result, Ok, Err}
 use Rattle.base.specs.Lists.{steps, same}
 use Rattle.numbers.specs.Bytes.{word_range, byte, le16, le32, bit}
 use Rattle.oce_diag.specs.Encoding.{diagnostic_length, severity_number, code_number, subject_kind, subject_number, severity_place, code_place, rule_place, detail_place, subject_kind_place, subject_number_place, place_place}
@@ -72,7 +72,7 @@ agrees f at s d = same_fields f at d && same_numbers f at d && same_subject f at
 
 -- where the stored diagnostic behind the one at an offset begins
 abbrev pub behind : List ℕ → ℕ → ℕ
-behind f at = at + text_at + le16 f (at + text_length_at)
+behind f at = at + (text_at + le16 f (at + text_length_at))
 
 -- where stored diagnostic n begins, if the first begins at an offset
 unfoldable pub place_of : List ℕ → ℕ → ℕ → ℕ
@@ -82,6 +82,10 @@ place_of f at n = steps n (λ i x. behind f x) at
 unfoldable pub alike : List ℕ → ℕ → List ℕ → List Diagnostic → ℕ
 alike f at s [] = 0
 alike f at s (d ∷ ds) = cond (agrees f at s d) (suc (alike f (behind f at) s ds)) 0
+
+-- where the stored diagnostics end, if all agree; else which is the first that differs
+unfoldable pub compared : List ℕ → ℕ → List ℕ → List Diagnostic → Result ℕ ℕ
+compared f at s ds = let n = alike f at s ds in cond (ltb n (length ds)) (Err n) (Ok (place_of f at n))
 
 -- the diagnostics are those of a report's bytes
 pub record Reported (ds : List Diagnostic) (report : List ℕ) : Type 0 where

@@ -3,7 +3,7 @@
 
 ghost use Rattle.std.specs.Prelude.{◌≡◌, ◌≤◌, length};
 ghost use Rattle.outcome.specs.Answer.{report_of};
-ghost use Rattle.agreement_diagnostics.specs.Diagnostics.{same_fields, same_numbers, same_subject, agrees, alike, place_of, Reported};
+ghost use Rattle.agreement_diagnostics.specs.Diagnostics.{same_fields, same_numbers, same_subject, agrees, compared, Reported};
 
 use base::part_of;
 use image_texts::same_bytes;
@@ -40,41 +40,30 @@ const NUMBER_BIT: usize = 0;
 
 const PLACE_BIT: usize = 1;
 
-// How many diagnostics agreed, and where the next stored one begins.
-#[derive(Clone, Copy)]
-pub struct Walk {
-    pub at: usize,
-    pub count: usize,
-}
-
 // ---- one diagnostic: the stored one at an offset beside one of the report
 
 // Severity, code, rule, detail and subject kind.
+#[tactic(auto, unfolding(crate::specs::Diagnostics::same_fields))]
 fn fields_agree(file: &[u8], at: usize, d: Diagnostic) -> bool
     requires { at ≤ length file.now }
     ensures { result ≡ same_fields file.now at d }
 {
-    let severity = d.severity;
-    let code = d.code;
-    let subject = d.subject;
-    (byte_at(file, at) == severity_number(severity) as usize)
-        & (byte_at(file, at + CODE_AT) == code_number(code) as usize)
-        & (byte_at(file, at + RULE_AT) == d.rule as usize)
-        & (byte_at(file, at + DETAIL_AT) == d.detail as usize)
-        & (byte_at(file, at + KIND_AT) == subject_kind(subject) as usize)
+    byte_at(file, at) == severity_number(d.severity) as usize
+        && byte_at(file, at + CODE_AT) == code_number(d.code) as usize
+        && byte_at(file, at + RULE_AT) == d.rule as usize
+        && byte_at(file, at + DETAIL_AT) == d.detail as usize
+        && byte_at(file, at + KIND_AT) == subject_kind(d.subject) as usize
 }
 
 // The subject's number and the place, where they are told.
+#[tactic(auto, unfolding(crate::specs::Diagnostics::same_numbers))]
 fn numbers_agree(file: &[u8], at: usize, d: Diagnostic) -> bool
     requires { at ≤ length file.now }
     ensures { result ≡ same_numbers file.now at d }
 {
-    let subject = d.subject;
     let told = byte_at(file, at + TOLD_AT);
-    let number = subject_number(subject) as usize;
-    let place = d.place as usize;
-    (!is_set(told, NUMBER_BIT) | (at32(file, at + NUMBER_AT) == number))
-        & (!is_set(told, PLACE_BIT) | (at32(file, at + PLACE_AT) == place))
+    (!is_set(told, NUMBER_BIT) || at32(file, at + NUMBER_AT) == subject_number(d.subject) as usize)
+        && (!is_set(told, PLACE_BIT) || at32(file, at + PLACE_AT) == d.place as usize)
 }
 
 // The subject's text.
@@ -91,33 +80,39 @@ fn subject_agrees(file: &[u8], at: usize, image: &[u8], x: Subject) -> bool
     same_bytes(ours, part_of(file, at + TEXT_AT, len))
 }
 
+#[tactic(auto, unfolding(crate::specs::Diagnostics::agrees))]
 fn diagnostic_agrees(file: &[u8], at: usize, image: &[u8], d: Diagnostic) -> bool
     requires { at ≤ length file.now }
     ensures { result ≡ agrees file.now at image.now d }
 {
-    let x = d.subject;
-    fields_agree(file, at, d) & numbers_agree(file, at, d) & subject_agrees(file, at, image, x)
+    fields_agree(file, at, d)
+        && numbers_agree(file, at, d)
+        && subject_agrees(file, at, image, d.subject)
 }
 
 // ---- all of them
 
-// All diagnostics, in their order, up to one that differs; count is how many the report has.
-pub fn diagnostics_agree(file: &[u8], at: usize, image: &[u8], report: &[u8], count: usize) -> Walk
+// All diagnostics, in their order, where count is how many the report has: where the stored ones end; or the first
+// that differs.
+pub fn compare_diagnostics(
+    file: &[u8],
+    at: usize,
+    image: &[u8],
+    report: &[u8],
+    count: usize,
+) -> Result<usize, usize>
     requires { Reported (report_of image.now) report.now × (count ≡ length (report_of image.now)) }
-    ensures { (result.count ≡ alike file.now at image.now (report_of image.now)) × (result.at ≡ place_of file.now at result.count) }
+    ensures { result ≡ compared file.now at image.now (report_of image.now) }
 {
     let mut at = at;
-    let mut n = 0;
-    while n < count {
+    for n in 0..count {
         if file.len() < at {
-            return Walk { at, count: n };
+            return Err(n);
         }
-        let d = diagnostic_at(report, n);
-        if !diagnostic_agrees(file, at, image, d) {
-            return Walk { at, count: n };
+        if !diagnostic_agrees(file, at, image, diagnostic_at(report, n)) {
+            return Err(n);
         }
-        at = at + TEXT_AT + at16(file, at + TEXT_LENGTH_AT);
-        n += 1;
+        at += TEXT_AT + at16(file, at + TEXT_LENGTH_AT);
     }
-    Walk { at, count: n }
+    Ok(at)
 }

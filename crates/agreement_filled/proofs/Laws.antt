@@ -18,7 +18,8 @@ use Rattle.base.proofs.Buffers.{patch-length, starts_with-patch}
 use Rattle.numbers.specs.Bytes.{byte, le32}
 use Rattle.oce_model.specs.Format.{connector_tag, boundary_output_tag, attrs_length, longest_image}
 use Rattle.oce_model.specs.Model.{Model, model_of, connector_count, boundary_output_count}
-use Rattle.oce_model.specs.Refusals.{Refusal, refusal}
+use Rattle.oce_model.specs.Refusals.{refusal}
+use Rattle.oce_model.specs.declared.Refusal.{Refusal}
 use Rattle.oce_model.proofs.Accepted.{Accepted, accepted, connectors-length, outputs-length}
 use Rattle.unify_slots.specs.Slots.{slot_count}
 use Rattle.outcome.specs.Filled.{slot_offsets, filled_of}

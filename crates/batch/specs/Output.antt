@@ -1,14 +1,16 @@
 -- What the output holds: for each image a field that sums up its check, then its report. FORMAT 22.
-use Rattle.std.specs.Prelude.{ℕ, ◌+◌, List, [], ◌∷◌, ◌++◌, length}
-use Rattle.std.specs.Prelude.{Option, Some, None}
+use Rattle.std.specs.Prelude.{ℕ, ◌+◌, ◌*◌, List, [], ◌∷◌, ◌++◌, length}
+use Rattle.std.specs.Prelude.{Option, Some, None, Ok, Err}
 use Rattle.numbers.specs.Bytes.{le_bytes}
 use Rattle.oce_model.specs.Format.{leading_bytes}
-use Rattle.oce_model.specs.Refusals.{Refusal, refusal}
+use Rattle.oce_model.specs.Refusals.{refusal}
+use Rattle.oce_model.specs.declared.Refusal.{Refusal}
 use Rattle.oce_diag.specs.Diagnostics.{errors, warnings}
-use Rattle.oce_diag.specs.Encoding.{report_bytes}
-use Rattle.outcome.specs.Answer.{report_of}
+use Rattle.oce_diag.specs.Encoding.{diagnostic_size, report_bytes}
+use Rattle.oce_diag.specs.Putting.{total}
+use Rattle.oce_diag.specs.declared.Counted.{Counted}
+use Rattle.outcome.specs.Answer.{Answer, report_of}
 use Rattle.batch.specs.Fields.{images}
-use Rattle.batch.specs.declared.Summary.{Summary}
 
 -- the tag of the field that sums up an image's check, the bytes of its contents, and of all of it
 abbrev pub summary_tag : ℕ
@@ -24,8 +26,8 @@ summary_size = leading_bytes + summary_length
 abbrev pub refusal_place : ℕ
 refusal_place = 3
 
-abbrev pub at_place : ℕ
-at_place = 4
+abbrev pub offset_place : ℕ
+offset_place = 4
 
 abbrev pub errors_place : ℕ
 errors_place = 8
@@ -33,19 +35,40 @@ errors_place = 8
 abbrev pub warnings_place : ℕ
 warnings_place = 12
 
--- An image has the room that it needs. If it is turned away, its refusal's number and offset; otherwise its report's errors and warnings. 0 where there is none.
-abbrev pub summary_by : List ℕ → Option Refusal → Summary
-summary_by s (Some r) = record { refusal = r.number; at = r.offset; errors = 0; warnings = 0 }
-summary_by s None = let ds = report_of s in record { refusal = 0; at = 0; errors = errors ds; warnings = warnings ds }
+-- What sums up an image is the answer for it with all the room that it needs: its refusal if it is turned away, otherwise its report's errors and warnings.
+abbrev pub summary_by : List ℕ → Option Refusal → Answer
+summary_by s (Some r) = Err r
+summary_by s None = let ds = report_of s in Ok (record { errors = errors ds; warnings = warnings ds })
 
-unfoldable pub summary_of : List ℕ → Summary
+unfoldable pub summary_of : List ℕ → Answer
 summary_of s = summary_by s (refusal s)
 
--- the field: tag, length, the refusal in a byte, the others in four each
-unfoldable pub summary_bytes : Summary → List ℕ
-summary_bytes r =
+-- how many diagnostics an answer counts
+abbrev pub count_of : Answer → ℕ
+count_of (Err r) = 0
+count_of (Ok c) = total c
+
+-- the bytes of an image's field and report, by its answer
+abbrev pub size_of : Answer → ℕ
+size_of a = summary_size + diagnostic_size * count_of a
+
+-- where there is no refusal, and where nothing is counted
+abbrev pub no_refusal : Refusal
+no_refusal = record { number = 0; offset = 0 }
+
+abbrev pub none_counted : Counted
+none_counted = record { errors = 0; warnings = 0 }
+
+-- the field: tag, length, the refusal's number in a byte, the others in four each
+unfoldable pub summary_field : Refusal → Counted → List ℕ
+summary_field r c =
     summary_tag ∷ le_bytes 2 summary_length
-    ++ le_bytes 1 r.refusal ++ le_bytes 4 r.at ++ le_bytes 4 r.errors ++ le_bytes 4 r.warnings
+    ++ le_bytes 1 r.number ++ le_bytes 4 r.offset ++ le_bytes 4 c.errors ++ le_bytes 4 c.warnings
+
+-- that of an answer
+abbrev pub summary_bytes : Answer → List ℕ
+summary_bytes (Err r) = summary_field r none_counted
+summary_bytes (Ok c) = summary_field no_refusal c
 
 -- the report behind it: all diagnostics, none of an image that is turned away
 abbrev pub report_by : List ℕ → Option Refusal → List ℕ

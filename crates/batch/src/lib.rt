@@ -1,25 +1,24 @@
 // A batch of images (FORMAT 22): what its definitions and the code of `check_batch` share.
 #![tactic(auto)]
 
-use oce_model::LEADING_BYTES;
+ghost use Rattle.std.specs.Prelude.{◌≡◌, ◌+◌, ◌<◌};
+ghost use Rattle.numbers.specs.Bytes.{word_range};
+ghost use Rattle.batch.specs.Output.{count_of, size_of};
 
-// What the output says of one image: its refusal and that refusal's offset, or its errors and warnings;
-// 0 where there is none.
-#[derive(Clone, Copy)]
-pub struct Summary {
-    pub refusal: u32,
-    pub at: u32,
-    pub errors: u32,
-    pub warnings: u32,
+use oce_diag::{Counted, DIAGNOSTIC_SIZE};
+use oce_model::{LEADING_BYTES, Refusal};
+use outcome::Answer;
+
+// Why a batch is refused: the refusal's number by FORMAT 22, and the offset of the field at fault (11) or the
+// bytes needed (12).
+#[derive(Clone, Copy, PartialEq, Eq, Debug)]
+pub struct BatchRefusal {
+    pub number: u32,
+    pub offset: usize,
 }
 
-// What a call answers: a refusal's number with the offset of the field at fault (11) or the bytes needed
-// (12), or how many bytes were written.
-#[derive(Clone, Copy)]
-pub enum BatchAnswer {
-    Refused { number: u32, at: usize },
-    Written(usize),
-}
+// What a call answers: how many bytes were written; or the refusal.
+pub type BatchAnswer = Result<usize, BatchRefusal>;
 
 // ---- the numbers of the format that code cites, by the names of specs/
 
@@ -37,8 +36,36 @@ pub const SUMMARY_SIZE: usize = LEADING_BYTES + SUMMARY_LENGTH;
 
 pub const REFUSAL_PLACE: usize = 3;
 
-pub const AT_PLACE: usize = 4;
+pub const OFFSET_PLACE: usize = 4;
 
 pub const ERRORS_PLACE: usize = 8;
 
 pub const WARNINGS_PLACE: usize = 12;
+
+// Where there is no refusal, and where nothing is counted.
+pub const NO_REFUSAL: Refusal = Refusal {
+    number: 0,
+    offset: 0,
+};
+
+pub const NONE_COUNTED: Counted = Counted {
+    errors: 0,
+    warnings: 0,
+};
+
+// How many diagnostics the answer for an image counts.
+pub fn count_of(answer: Answer) -> usize
+    ensures { (result ≡ count_of answer) × (result < word_range + word_range) }
+{
+    match answer {
+        Ok(counted) => counted.errors as usize + counted.warnings as usize,
+        Err(_) => 0,
+    }
+}
+
+// The bytes of the field and the report of an image, by its answer.
+pub fn size_of(answer: Answer) -> usize
+    ensures { result ≡ size_of answer }
+{
+    SUMMARY_SIZE + DIAGNOSTIC_SIZE * count_of(answer)
+}

@@ -4,22 +4,23 @@ use native.Mathlib.Decide.{ℕ_discrete}
 use native.Mathlib.Omega.{arith}
 use mathlib.Core.Path.{◌≡◌, refl, sym, ap, ◌∙◌}
 use mathlib.Core.List.{List, [], ◌∷◌, ◌++◌, map, append_assoc, append-nil}
-use lib.ListN.{length, get_or, take, drop, length-append}
-use lib.Seq.{length-take-le, take_at}
+use lib.ListN.{length, get_or, set, take, drop, length-append, length-set}
+use lib.Seq.{length-take-le, take_at, get_or-set_same, get_or-set_other}
 use borrow.Rule.Slice.PartMut.{put_mid, mid_of}
 use Rattle.base.specs.Buffers.{patch, starts_with}
 use Rattle.base.proofs.Buffers.{patch-none, patch-length, patch-patch, starts_with-patch}
 use Rattle.base.proofs.Parts.{part_room, part-patched}
 use Rattle.oce_model.specs.Image.{fields}
+use Rattle.outcome.specs.Answer.{Answer}
 use Rattle.oce_model.specs.declared.Field.{Field}
-use Rattle.batch.specs.Fields.{image_in, images}
-use Rattle.batch.specs.Output.{image_output, output_of, batch_output, bytes_needed}
-use Rattle.batch.specs.declared.Summary.{Summary}
+use Rattle.batch.specs.Fields.{most_images, image_in, images}
+use Rattle.batch.specs.Output.{size_of, summary_of, image_output, output_of, batch_output, bytes_needed}
 use Rattle.batch_framing.specs.Clean.{Clean, Ahead}
 use Rattle.batch_framing.proofs.Passes.{ahead-start, ahead-next, ahead-few, ahead-ord, ahead-more, ahead-image, ahead-all}
-use Rattle.batch_image.specs.Summarized.{Summarized, size_of, most_bytes}
+use Rattle.batch_image.specs.Summarized.{Placed, most_bytes}
+use Rattle.batch.proofs.Sizes.{output-long}
 use Rattle.batch_image.proofs.Laws.{output-size}
-use Rattle.batch_check.specs.Kept.{kept_length, summary_at, Noted, Begun, KeptTo, Kept}
+use Rattle.batch_check.specs.Kept.{answer_of, Measures, KeptTo, Kept}
 use Rattle.batch_check.specs.Called.{Measured, most_needed}
 
 -- ---- the output of the images in some fields
@@ -45,7 +46,7 @@ output-longer s f {l} e = ap (λ r. length (output_in s r)) e ∙ ap length (out
 -- ---- measuring
 
 -- the images passed are kept, their parts of the output are done, and the buffer e begins with those, if they fit
-pub record Measuring (s : List ℕ) (rest : List Field) (needed : ℕ) (k : List ℕ) (n : ℕ) (e : List ℕ) : Type 0 where
+pub record Measuring (s : List ℕ) (rest : List Field) (needed : ℕ) (k : List Answer) (n : ℕ) (e : List ℕ) : Type 0 where
   pub i : ℕ
   pub done : List ℕ
   pub ahead : Ahead s i rest
@@ -56,7 +57,7 @@ pub record Measuring (s : List ℕ) (rest : List Field) (needed : ℕ) (k : List
   pub long : length e ≡ n
   pub early : needed ≤ length e → take needed e ≡ done
 
-pub measuring-start : {s : List ℕ} {rest : List Field} (k e : List ℕ) → Clean s → rest ≡ fields s → length k ≡ kept_length → Measuring s rest 0 k (length e) e
+pub measuring-start : {s : List ℕ} {rest : List Field} (k : List Answer) (e : List ℕ) → Clean s → rest ≡ fields s → length k ≡ most_images → Measuring s rest 0 k (length e) e
 measuring-start {s} k e v p l = record {
   i = 0;
   done = [];
@@ -74,24 +75,30 @@ front-longer : (e bs : List ℕ) (o : ℕ) → o + length bs ≤ length e → ta
 unfolding patch
 front-longer e bs o h = take_at (take o e ++ bs) (drop (o + length bs) e) (o + length bs) (rw (length-append, length-take-le o e (omega arith)))
 
-module _ {s : List ℕ} {rest : List Field} {needed : ℕ} {k : List ℕ} {m : ℕ} {e : List ℕ} (v : Measuring s rest needed k m e) where
+module _ {s : List ℕ} {rest : List Field} {needed : ℕ} {k : List Answer} {m : ℕ} {e : List ℕ} (v : Measuring s rest needed k m e) where
   module _ {f : Field} {later : List Field} (q : rest ≡ f ∷ later) where
-    module _ {k' : List ℕ} {n : ℕ} (w : Noted (image_in s f) f.ord k k' n) where
+    pub measuring-kept : f.ord < length k
+    measuring-kept = let few = ahead-few v.ahead q in let l = v.kept.long in omega arith
+
+    module _ {n : ℕ} {e' : List ℕ} (w : Measures (image_in s f) needed e e' n) where
       pub measuring-sum : needed + n ≤ most_needed
       measuring-sum = let few = ahead-few v.ahead q in let o = ahead-ord v.ahead q in let low = v.low in let more = w.low in omega arith
 
-      entries : (j : ℕ) → j < v.i + 1 → Summarized (get_or (images s) j []) (summary_at k' j)
-      entries j l = arm (ℕ_discrete j v.i)
+      kept-next : KeptTo s (v.i + 1) (set k f.ord (summary_of (image_in s f)))
+      kept-next = record { long = length-set k f.ord (summary_of (image_in s f)) ∙ v.kept.long; entries = entries }
         where
           o : f.ord ≡ v.i
           o = ahead-ord v.ahead q
 
-          arm : Dec (j ≡ v.i) → Summarized (get_or (images s) j []) (summary_at k' j)
-          arm (yes p) = rw (p, ahead-image v.ahead q, ← o) w.entry
-          arm (no p) = let l : j < v.i = omega arith in rw (w.others j (λ e. p (e ∙ o))) (v.kept.entries j l)
+          entries : (j : ℕ) → j < v.i + 1 → answer_of (set k f.ord (summary_of (image_in s f))) j ≡ summary_of (get_or (images s) j [])
+          entries j l = arm (ℕ_discrete j f.ord)
+            where
+              arm : Dec (j ≡ f.ord) → answer_of (set k f.ord (summary_of (image_in s f))) j ≡ summary_of (get_or (images s) j [])
+              arm (yes p) = rw p (get_or-set_same k f.ord (summary_of (image_in s f)) _ measuring-kept ∙ ap summary_of (sym (ahead-image v.ahead q) ∙ ap (λ n. get_or (images s) n []) (sym o)))
+              arm (no p) = get_or-set_other k f.ord j (summary_of (image_in s f)) _ p ∙ (let e = o in let l : j < v.i = omega arith in v.kept.entries j l)
 
-      pub measuring-turn : {e' : List ℕ} → Begun (image_in s f) needed e e' → length e' ≡ length e → Measuring s later (needed + n) k' m e'
-      measuring-turn {e'} b same =
+      pub measuring-turn : {k' : List Answer} → k' ≡ set k f.ord (summary_of (image_in s f)) → length e' ≡ length e → Measuring s later (needed + n) k' m e'
+      measuring-turn kept same =
           let part = image_output (image_in s f) in
           let low = v.low in
           let more = w.low in
@@ -100,7 +107,7 @@ module _ {s : List ℕ} {rest : List Field} {needed : ℕ} {k : List ℕ} {m : �
             i = v.i + 1;
             done = v.done ++ part;
             ahead = ahead-next v.ahead q;
-            kept = record { long = w.long; entries = entries };
+            kept = rw kept kept-next;
             whole = append_assoc v.done part (output_in s later) ∙ ap (λ x. v.done ++ x) (sym (output-next s f later) ∙ ap (output_in s) (sym q)) ∙ v.whole;
             size = ap (λ x. x + n) size ∙ ap (λ x. length v.done + x) w.size ∙ sym (length-append v.done part);
             low = omega arith;
@@ -113,7 +120,7 @@ module _ {s : List ℕ} {rest : List Field} {needed : ℕ} {k : List ℕ} {m : �
               let z : n ≡ length (image_output (image_in s f)) = w.size in
               let r : needed + length (image_output (image_in s f)) ≤ length e = omega (arith, same) in
               let d : take needed e ≡ v.done = v.early (omega (arith, same)) in
-              rw (z, b.bytes r) (front-longer e (image_output (image_in s f)) needed r ∙ rw d)
+              rw (z, w.bytes r) (front-longer e (image_output (image_in s f)) needed r ∙ rw d)
 
   pub measuring-long : length e ≡ m
   measuring-long = v.long
@@ -125,18 +132,21 @@ module _ {s : List ℕ} {rest : List Field} {needed : ℕ} {k : List ℕ} {m : �
       let low = v.low in
       record { kept = rw (ahead-all v.ahead h) at v.kept; size = v.size ∙ ap length all; low = omega arith; early = λ l. v.early l ∙ all }
 
--- ---- one image written
+-- ---- one image
 
--- by the summary that was kept
-module _ {t : List ℕ} {x r : Summary} (v : Summarized t x) (e : r ≡ x) where
-  pub entry-summarized : {xs : List ℕ} → xs ≡ t → Summarized xs r
-  entry-summarized g = rw (e, g) v
+-- what is kept of it, and what it needs
+pub summed : {x t e e' : List ℕ} {o : ℕ} {a : Answer} → Placed x o e e' a → x ≡ t → a ≡ summary_of t
+summed u g = u.summarized.is ∙ ap summary_of g
 
-  pub entry-few : size_of r ≤ most_bytes
-  entry-few = rw e v.few
+pub measures : {x t e e' : List ℕ} {o n : ℕ} {a : Answer} → Placed x o e e' a → x ≡ t → n ≡ size_of a → Measures t o e e' n
+measures u g z = rw (← g) record { size = z ∙ sym (output-size _ u.summarized.is); low = rw z u.summarized.few; bytes = u.bytes }
 
-  pub entry-end : (o : ℕ) {n : ℕ} → n ≡ size_of r → o + n ≡ o + length (image_output t)
-  entry-end o h = rw (h, e, output-size v)
+-- written by the answer that was kept
+pub entry-is : {t x : List ℕ} {a : Answer} → a ≡ summary_of t → x ≡ t → a ≡ summary_of x
+entry-is e g = e ∙ ap summary_of (sym g)
+
+pub entry-end : (t : List ℕ) {a : Answer} {n : ℕ} (o : ℕ) → a ≡ summary_of t → n ≡ size_of a → o + n ≡ o + length (image_output t)
+entry-end t o e h = rw (h, e, output-long t)
 
 pub entry-room : (t out : List ℕ) (o k : ℕ) {xs : List ℕ} → xs ≡ t → k ≡ length out - o → o + length (image_output t) ≤ length out → length (image_output xs) ≤ length (mid_of o k out)
 entry-room t out o k g l h = rw g (part_room out o k (length (image_output t)) l h)
@@ -147,7 +157,7 @@ entry-bytes t out o k {xs} e g l = rw (← g) (part-patched out (image_output xs
 -- ---- writing
 
 -- what is left, written from o on, makes the whole output
-pub record Writing (s k out₀ : List ℕ) (rest : List Field) (o : ℕ) (out : List ℕ) : Type 0 where
+pub record Writing (s : List ℕ) (k : List Answer) (out₀ : List ℕ) (rest : List Field) (o : ℕ) (out : List ℕ) : Type 0 where
   pub i : ℕ
   pub ahead : Ahead s i rest
   pub kept : Kept s k
@@ -155,7 +165,7 @@ pub record Writing (s k out₀ : List ℕ) (rest : List Field) (o : ℕ) (out : 
   pub long : length out ≡ length out₀
   pub bytes : patch out o (output_in s rest) ≡ starts_with (batch_output s) out₀
 
-pub writing_start : {s k : List ℕ} {rest : List Field} (out : List ℕ) → Clean s → Kept s k → rest ≡ fields s → bytes_needed s ≤ length out → Writing s k out rest 0 out
+pub writing_start : {s : List ℕ} {k : List Answer} {rest : List Field} (out : List ℕ) → Clean s → Kept s k → rest ≡ fields s → bytes_needed s ≤ length out → Writing s k out rest 0 out
 writing_start {s} out v kept e l =
     let all : batch_output s ≡ output_in s _ = output-all s ∙ ap (output_in s) (sym e) in
     let z = ap length all in
@@ -168,9 +178,15 @@ writing_start {s} out v kept e l =
       bytes = ap (patch out 0) (sym all) ∙ sym (starts_with-patch (batch_output s) out);
     }
 
-module _ {s k out₀ : List ℕ} {rest : List Field} {o : ℕ} {out : List ℕ} (v : Writing s k out₀ rest o out) where
+module _ {s : List ℕ} {k : List Answer} {out₀ : List ℕ} {rest : List Field} {o : ℕ} {out : List ℕ} (v : Writing s k out₀ rest o out) where
   module _ {f : Field} {later : List Field} (q : rest ≡ f ∷ later) where
-    pub writing-entry : Summarized (image_in s f) (summary_at k f.ord)
+    pub writing-kept : f.ord < length k
+    writing-kept = let few = ahead-few v.ahead q in let l = v.kept.long in omega arith
+
+    pub writing-offset : f.ord ≤ most_images
+    writing-offset = let few = ahead-few v.ahead q in omega arith
+
+    pub writing-entry : answer_of k f.ord ≡ summary_of (image_in s f)
     writing-entry = rw (ahead-image v.ahead q, sym (ahead-ord v.ahead q)) at (v.kept.entries v.i (ahead-more v.ahead q))
 
     pub writing-room : o + length (image_output (image_in s f)) ≤ length out

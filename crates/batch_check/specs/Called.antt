@@ -2,8 +2,8 @@
 use Rattle.std.specs.Prelude.{ℕ, ◌*◌, ◌≤◌, ◌≡◌, List, length, take}
 use Rattle.batch.specs.Fields.{most_images}
 use Rattle.batch.specs.Output.{batch_output, bytes_needed}
-use Rattle.batch.specs.Answer.{batch_answer, output_after}
-use Rattle.batch.specs.declared.BatchAnswer.{BatchAnswer}
+use Rattle.outcome.specs.Answer.{Answer}
+use Rattle.batch.specs.Answer.{BatchAnswer, batch_answer, output_after}
 use Rattle.batch_image.specs.Summarized.{most_bytes}
 use Rattle.batch_check.specs.Kept.{Kept}
 
@@ -12,7 +12,7 @@ abbrev pub most_needed : ℕ
 most_needed = most_bytes * most_images
 
 -- all images are kept, and need so many bytes, which the buffer e begins with, if they fit
-pub record Measured (s k e : List ℕ) (needed : ℕ) : Type 0 where
+pub record Measured (s : List ℕ) (k : List Answer) (e : List ℕ) (needed : ℕ) : Type 0 where
   pub kept : Kept s k
   pub size : needed ≡ bytes_needed s
   pub low : needed ≤ most_needed

@@ -1,76 +1,49 @@
 // The checking call for a batch of images.
 #![tactic(auto)]
 
-ghost use Rattle.std.specs.Prelude.{◌≡◌, ◌+◌, ◌<◌, ◌≤◌, length};
+ghost use Rattle.std.specs.Prelude.{◌≡◌, ◌+◌, ◌<◌, ◌≤◌, length, set};
 ghost use Rattle.base.specs.Buffers.{patch, starts_with};
 ghost use Rattle.batch.specs.Fields.{most_images, image_in};
-ghost use Rattle.batch.specs.Output.{image_output, batch_output, bytes_needed};
+ghost use Rattle.batch.specs.Output.{summary_of, image_output, batch_output, bytes_needed};
 ghost use Rattle.batch.specs.Answer.{batch_answer, batch_numbers, output_after};
 ghost use Rattle.batch_framing.specs.Clean.{Clean};
-ghost use Rattle.batch_image.specs.Summarized.{Summarized};
-ghost use Rattle.batch_check.specs.Kept.{kept_length, summary_at, with_summary, Noted, Begun, Kept};
+ghost use Rattle.batch_check.specs.Kept.{Measures, Kept};
 ghost use Rattle.batch_check.specs.Called.{Measured, Called};
 
 use base::copy_at;
-use batch::{BatchAnswer, MOST_IMAGES, SUMMARY_SIZE, Summary};
+use batch::{BatchAnswer, BatchRefusal, MOST_IMAGES, NONE_COUNTED, SUMMARY_SIZE, size_of};
 use batch_framing::{find_fault, image_in};
-use batch_image::{size_of, summarize_at, write_image};
+use batch_image::{summarize_at, write_image};
 use image_framing::Fields;
 use oce_model::Field;
+use outcome::Answer;
 
-// Numbers of a summary.
-const WIDTH: usize = 4;
+// The refusals of a batch: a field at fault, and an output buffer that is too short.
+const FIELD_AT_FAULT: u32 = 11;
 
-const KEPT: usize = WIDTH * MOST_IMAGES;
+const OUTPUT_TOO_SHORT: u32 = 12;
 
 // Room for an output that is written before it is known whether the caller's buffer has room for it: a field for each of
 // the most images.
 const EARLY: usize = SUMMARY_SIZE * MOST_IMAGES;
 
-// ---- what is kept of each image
-
-// The summary of image i.
-fn summary_at(kept: &[u32], i: usize) -> Summary
-    requires { (i < most_images) × (length kept.now ≡ kept_length) }
-    ensures { result ≡ summary_at kept.now i }
-{
-    let j = WIDTH * i;
-    Summary {
-        refusal: kept[j],
-        at: kept[j + 1],
-        errors: kept[j + 2],
-        warnings: kept[j + 3],
-    }
-}
-
-// Keeps the summary of image i.
-fn keep(kept: &mut [u32], i: usize, r: Summary)
-    requires { (i < most_images) × (length kept.old ≡ kept_length) }
-    ensures { kept.new ≡ with_summary kept.old i r }
-{
-    let j = WIDTH * i;
-    kept[j] = r.refusal;
-    kept[j + 1] = r.at;
-    kept[j + 2] = r.errors;
-    kept[j + 3] = r.warnings;
-}
-
 // ---- what the output needs
 
-// Keeps the summary of the image in a field; the bytes that it needs. Its part of the output stands in early from index o
+// Keeps the answer for the image in a field; the bytes that it needs. Its part of the output stands in early from index o
 // on, if it fits there.
-fn measure_image(batch: &[u8], f: Field, kept: &mut [u32], early: &mut [u8], o: usize) -> usize
-    requires { (f.at ≤ length batch.now) × (f.ord < most_images) × (length kept.old ≡ kept_length) }
-    ensures { Noted (image_in batch.now f) f.ord kept.old kept.new result × Begun (image_in batch.now f) o early.old early.new }
+fn measure_image(batch: &[u8], f: Field, kept: &mut [Answer], early: &mut [u8], o: usize) -> usize
+    requires { (f.at ≤ length batch.now) × (f.ord < length kept.old) }
+    ensures kept { kept.new ≡ set kept.old f.ord (summary_of (image_in batch.now f)) }
+    ensures measures { Measures (image_in batch.now f) o early.old early.new result }
 {
-    let r = summarize_at(image_in(batch, f), early, o);
-    keep(kept, f.ord, r);
-    size_of(r)
+    let answer = summarize_at(image_in(batch, f), early, o);
+    kept[f.ord] = answer;
+    size_of(answer)
 }
 
-// Keeps the summaries of all images; the bytes of the whole output, which early begins with, if it fits there.
-fn measure(batch: &[u8], kept: &mut [u32], early: &mut [u8]) -> usize
-    requires { Clean batch.now × (length kept.old ≡ kept_length) }
+// Keeps the answers for all images; the bytes of the whole output, which early begins with, if it fits there.
+fn measure(batch: &[u8], kept: &mut [Answer], early: &mut [u8]) -> usize
+    requires { Clean batch.now × (length kept.old ≡ most_images) }
     ensures { Measured batch.now kept.new early.new result }
 {
     let mut needed = 0;
@@ -82,31 +55,31 @@ fn measure(batch: &[u8], kept: &mut [u32], early: &mut [u8]) -> usize
 
 // ---- the output
 
-// Writes the part of the image in a field from index o on; where it ends.
-fn write_part(batch: &[u8], f: Field, kept: &[u32], output: &mut [u8], o: usize) -> usize
-    requires { (f.at ≤ length batch.now) × (f.ord < most_images) × (length kept.now ≡ kept_length) × Summarized (image_in batch.now f) (summary_at kept.now f.ord) × (o + length (image_output (image_in batch.now f)) ≤ length output.old) }
-    ensures { (result ≡ o + length (image_output (image_in batch.now f))) × (output.new ≡ patch output.old o (image_output (image_in batch.now f))) }
+// Writes the part of the image in a field, by its answer, from index o on; where it ends.
+fn write_part(batch: &[u8], f: Field, answer: Answer, output: &mut [u8], o: usize) -> usize
+    requires { (f.at ≤ length batch.now) × (answer ≡ summary_of (image_in batch.now f)) × (o + length (image_output (image_in batch.now f)) ≤ length output.old) }
+    ensures end { result ≡ o + length (image_output (image_in batch.now f)) }
+    ensures output { output.new ≡ patch output.old o (image_output (image_in batch.now f)) }
 {
-    let r = summary_at(kept, f.ord);
-    write_image(image_in(batch, f), r, &mut output[o..]);
-    o + size_of(r)
+    write_image(image_in(batch, f), answer, &mut output[o..]);
+    o + size_of(answer)
 }
 
 // Writes the whole output.
-fn write_all(batch: &[u8], kept: &[u32], output: &mut [u8])
+fn write_all(batch: &[u8], kept: &[Answer], output: &mut [u8])
     requires { Clean batch.now × Kept batch.now kept.now × (bytes_needed batch.now ≤ length output.old) }
     ensures { output.new ≡ starts_with (batch_output batch.now) output.old }
 {
     let mut o = 0;
     for f in Fields::of(batch) {
-        o = write_part(batch, f, kept, output, o);
+        o = write_part(batch, f, kept[f.ord], output, o);
     }
 }
 
 // ---- the call
 
 // Writes the whole output: a copy, if early has it.
-fn write_output(batch: &[u8], kept: &[u32], early: &[u8], needed: usize, output: &mut [u8])
+fn write_output(batch: &[u8], kept: &[Answer], early: &[u8], needed: usize, output: &mut [u8])
     requires { Clean batch.now × Measured batch.now kept.now early.now needed × (needed ≤ length output.old) }
     ensures { output.new ≡ starts_with (batch_output batch.now) output.old }
 {
@@ -122,17 +95,17 @@ fn check_images(batch: &[u8], output: &mut [u8]) -> BatchAnswer
     requires { Clean batch.now }
     ensures { Called batch.now output.old result output.new }
 {
-    let mut kept = [0u32; KEPT];
+    let mut kept = [Ok(NONE_COUNTED); MOST_IMAGES];
     let mut early = [0u8; EARLY];
     let needed = measure(batch, &mut kept, &mut early);
     if output.len() < needed {
-        return BatchAnswer::Refused {
-            number: 12,
-            at: needed,
-        };
+        return Err(BatchRefusal {
+            number: OUTPUT_TOO_SHORT,
+            offset: needed,
+        });
     }
     write_output(batch, &kept, &early, needed, output);
-    BatchAnswer::Written(needed)
+    Ok(needed)
 }
 
 // Every byte string: refusal 11, or on to its images.
@@ -140,7 +113,10 @@ fn check_any(batch: &[u8], output: &mut [u8]) -> BatchAnswer
     ensures { Called batch.now output.old result output.new }
 {
     match find_fault(batch) {
-        Some(at) => BatchAnswer::Refused { number: 11, at },
+        Some(offset) => Err(BatchRefusal {
+            number: FIELD_AT_FAULT,
+            offset,
+        }),
         None => check_images(batch, output),
     }
 }

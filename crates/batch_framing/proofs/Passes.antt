@@ -19,10 +19,9 @@ use Rattle.oce_model.specs.Image.{field_at, field_end, fields, fields_from, firs
 use Rattle.oce_model.specs.declared.Field.{Field}
 use Rattle.oce_model.proofs.Fields.{NonePass, none_of, first-later}
 use Rattle.oce_model.proofs.Places.{field-end}
-use Rattle.image_framing.specs.Walk.{after, end_of, start}
-use Rattle.image_framing.proofs.Walks.{walk-fits, walk_start, walk_step}
+use Rattle.image_framing.specs.Walk.{end_of}
 use Rattle.batch.specs.Fields.{image_tag, most_images, bad_field, image_in, images}
-use Rattle.batch_framing.specs.Clean.{Clean, Counted, Ahead, Passing}
+use Rattle.batch_framing.specs.Clean.{Clean, Counted, Ahead}
 
 -- ---- a field that isn't bad
 
@@ -88,7 +87,7 @@ module _ {s : List ℕ} {i : ℕ} {f : Field} {rest later : List Field} (v : Ahe
   here : f ≡ get_or (fields s) i f
   here = ap (λ (r : List Field). get_or r 0 f) (sym e ∙ v.here) ∙ get_or-drop i (fields s) 0 f ∙ ap (λ n. get_or (fields s) n f) (add-zero i)
 
-  pub ahead-fits : end_of f ≤ length s
+  ahead-fits : end_of f ≤ length s
   ahead-fits = field-end s f (rw here (get_or-mem (fields s) i f some_left))
 
   pub ahead-at : f.at ≤ length s
@@ -133,26 +132,3 @@ ahead-all {s} {rest = rest} v e =
     let all = v.all in
     let m = length-map (fields s) (image_in s) in
     omega arith
-
--- ---- the pass by `next_field`
-
-pub passing-start : {s : List ℕ} {f : Field} → Clean s → f ≡ start s → Passing s f 0 (fields s)
-passing-start v e = record { walk = walk_start e; ends = v.ends; ahead = ahead-start v refl }
-
--- one image fewer
-pub record Passed (s : List ℕ) (f g : Field) (i : ℕ) (rest : List Field) : Type 0 where
-  pub later : List Field
-  pub is : rest ≡ f ∷ later
-  pub pass : Passing s g (i + 1) later
-
-module _ {s : List ℕ} {f : Field} {i : ℕ} {rest : List Field} (v : Passing s f i rest) where
-  pub passing-fits : f.at < length s → end_of f ≤ length s
-  passing-fits h = walk-fits v.walk v.ends h
-
-  pub passing-few : f.at < length s → f.ord < most_images
-  passing-few h = ahead-few v.ahead (walk_step v.walk h (passing-fits h) refl).is
-
-  pub passing_step : {g : Field} → f.at < length s → g ≡ after s f → Passed s f g i rest
-  passing_step h e =
-      let k = walk_step v.walk h (passing-fits h) e in
-      record { later = k.later; is = k.is; pass = record { walk = k.walk; ends = v.ends; ahead = ahead-next v.ahead k.is } }

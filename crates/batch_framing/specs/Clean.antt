@@ -3,7 +3,6 @@ use Rattle.std.specs.Prelude.{ℕ, ◌+◌, ◌≤◌, ◌≡◌, List, [], ◌�
 use Rattle.std.specs.Prelude.{None}
 use Rattle.oce_model.specs.Image.{fields, stop, first}
 use Rattle.oce_model.specs.declared.Field.{Field}
-use Rattle.image_framing.specs.Walk.{Walking}
 use Rattle.batch.specs.Fields.{most_images, bad_field}
 
 -- its fields end with it, and none is bad
@@ -23,9 +22,3 @@ pub record Ahead (s : List ℕ) (i : ℕ) (rest : List Field) : Type 0 where
   pub all : i + length rest ≡ length (fields s)
   pub counted : Counted i rest
   pub few : i ≤ most_images
-
--- the same, where the loop has come to the field f
-pub record Passing (s : List ℕ) (f : Field) (i : ℕ) (rest : List Field) : Type 0 where
-  pub walk : Walking s f rest
-  pub ends : stop s ≡ length s
-  pub ahead : Ahead s i rest

@@ -4,7 +4,7 @@ use native.Mathlib.Nat.{div-div-eq-div-mul}
 use native.Mathlib.Omega.{arith}
 use mathlib.Core.Path.{◌≡◌, refl, sym, ap, ◌∙◌}
 use mathlib.Core.List.{List, [], ◌∷◌, ◌++◌, append-nil}
-use Rattle.std.specs.Prelude.{Option, Some, None}
+use Rattle.std.specs.Prelude.{Some, None, Ok, Err}
 use lib.ListN.{length, get_or}
 use Rattle.std.specs.Int.{w32, to_le_bytes}
 use Rattle.numbers.specs.Bytes.{le_bytes}
@@ -13,45 +13,38 @@ use Rattle.base.specs.Buffers.{patch, starts_with}
 use Rattle.base.proofs.Buffers.{patch-reversed, starts_with-none, starts_with-patch, starts_with-length}
 use Rattle.base.proofs.Parts.{part_room, part-patched, part-behind}
 use Rattle.oce_model.specs.Model.{model_of}
-use Rattle.oce_model.specs.Refusals.{Refusal, refusal}
+use Rattle.oce_model.specs.Refusals.{refusal}
+use Rattle.oce_model.specs.declared.Refusal.{Refusal}
 use Rattle.oce_diag.specs.Encoding.{diagnostic_size}
 use Rattle.oce_diag.specs.declared.Counted.{Counted}
 use Rattle.oce_diag.proofs.Encoding.{report_bytes-length}
 use Rattle.oce_diag.proofs.Putting.{put-errors, put-warnings, put-room}
 use Rattle.unify.specs.Slots.{Slots}
-use Rattle.outcome.specs.Answer.{report_of}
+use Rattle.outcome.specs.Answer.{Answer, report_of}
 use Rattle.rules.specs.Ran.{Ran}
-use Rattle.batch.specs.Output.{summary_size, summary_by, summary_of, report_by, image_report, summary_bytes, image_output}
-use Rattle.batch.specs.declared.Summary.{Summary}
+use Rattle.batch.specs.Output.{summary_size, count_of, size_of, summary_of, image_report, summary_field, summary_bytes, image_output}
 use Rattle.batch.proofs.Sizes.{summary_bytes-length, report-long, output-long}
-use Rattle.batch_image.specs.Summarized.{Counting, Summarized, Summed, Placed, size_of}
+use Rattle.batch_image.specs.Summarized.{Summarized, Summed, Placed}
 
 -- ---- the check
 
-pub counting : {s b b' : List ℕ} {σ : Slots} {c : Counted} → refusal s ≡ None → Ran (model_of s) σ b b' c → Counting s b b' c
-unfolding report_of
-counting h q = record {
-  accepted = h;
-  errors = put-errors q.put refl;
-  warnings = put-warnings q.put refl;
-  few = q.few;
-  bytes = λ l. put-room q.put refl l;
+counted-is : (c : Counted) {e w : ℕ} → c.errors ≡ e → c.warnings ≡ w → c ≡ record { errors = e; warnings = w }
+counted-is c h k = rw (← h, ← k) refl
+
+-- counted, and written if it fits
+pub summed-counted : {s b b' : List ℕ} {σ : Slots} {c : Counted} → refusal s ≡ None → Ran (model_of s) σ b b' c → Summed s b b' (Ok c)
+unfolding summary_of image_report report_of
+summed-counted {s} {c = c} h q = record {
+  summarized = record { is = rw h (ap Ok (counted-is c (put-errors q.put refl) (put-warnings q.put refl))); few = omega (arith, q.few) };
+  bytes = rw h (λ l. put-room q.put refl (rw (report_bytes-length (report_of s)) at l));
 }
 
 -- turned away: the report stays as it is
-pub summed-refused : {s : List ℕ} (b : List ℕ) {n at : ℕ} → refusal s ≡ Some (record { number = n; offset = at }) → Summed s b b (record { refusal = n; at = at; errors = 0; warnings = 0 })
+pub summed-refused : {s : List ℕ} (b : List ℕ) {r : Refusal} → refusal s ≡ Some r → Summed s b b (Err r)
 unfolding summary_of image_report
 summed-refused {s} b h = record {
   summarized = record { is = rw h; few = omega arith };
   bytes = rw h (λ l. sym (starts_with-none b));
-}
-
--- counted, and written if it fits
-pub summed-counted : {s b b' : List ℕ} {c : Counted} → Counting s b b' c → Summed s b b' (record { refusal = 0; at = 0; errors = c.errors; warnings = c.warnings })
-unfolding summary_of image_report
-summed-counted {s} {b} {b'} t = record {
-  summarized = record { is = rw (t.accepted, t.errors, t.warnings); few = omega (arith, t.few) };
-  bytes = rw t.accepted (λ l. t.bytes (rw (report_bytes-length (report_of s)) at l));
 }
 
 -- ---- the bytes
@@ -60,12 +53,12 @@ none_left : (bs : List ℕ) → length bs ≡ 0 → bs ≡ []
 none_left [] e = refl
 none_left (b ∷ bs) e = absurd (omega arith)
 
-module _ {s : List ℕ} {r : Summary} (v : Summarized s r) where
-  report-size : length (image_report s) ≡ diagnostic_size * (r.errors + r.warnings)
-  report-size = report-long s ∙ ap (λ (x : Summary). diagnostic_size * (x.errors + x.warnings)) (sym v.is)
+module _ (s : List ℕ) {a : Answer} (v : a ≡ summary_of s) where
+  report-size : length (image_report s) ≡ diagnostic_size * count_of a
+  report-size = report-long s ∙ ap (λ (x : Answer). diagnostic_size * count_of x) (sym v)
 
-  pub output-size : length (image_output s) ≡ size_of r
-  output-size = output-long s ∙ ap size_of (sym v.is)
+  pub output-size : length (image_output s) ≡ size_of a
+  output-size = output-long s ∙ ap size_of (sym v)
 
   field_fits : {n : ℕ} → length (image_output s) ≤ n → summary_size ≤ n
   field_fits h = let e = output-size in omega arith
@@ -73,76 +66,76 @@ module _ {s : List ℕ} {r : Summary} (v : Summarized s r) where
   pub field_room : (o : List ℕ) → length (image_output s) ≤ length o → 0 + summary_size ≤ length o
   field_room o l = let k = field_fits l in omega arith
 
-  none-due : r.errors + r.warnings ≡ 0 → image_report s ≡ []
+  none-due : count_of a ≡ 0 → image_report s ≡ []
   none-due z = none_left (image_report s) (report-size ∙ rw z)
 
-pub field-bytes : (r : Summary) (o : List ℕ) (at : ℕ) {h o₁ : List ℕ} → h ≡ summary_bytes r → o₁ ≡ patch o at h → o₁ ≡ patch o at (summary_bytes r)
-field-bytes r o at e p = p ∙ ap (patch o at) e
+pub field-bytes : (a : Answer) (o : List ℕ) (at : ℕ) {h o₁ : List ℕ} → h ≡ summary_bytes a → o₁ ≡ patch o at h → o₁ ≡ patch o at (summary_bytes a)
+field-bytes a o at e p = p ∙ ap (patch o at) e
 
 -- ---- its part of the output
 
-module _ {s : List ℕ} {r : Summary} (v : Summarized s r) (o : List ℕ) {o₁ : List ℕ} (p : o₁ ≡ patch o 0 (summary_bytes r)) (room : length (image_output s) ≤ length o) where
+module _ (s : List ℕ) {a : Answer} (v : a ≡ summary_of s) (o : List ℕ) {o₁ : List ℕ} (p : o₁ ≡ patch o 0 (summary_bytes a)) (room : length (image_output s) ≤ length o) where
   field_is : o₁ ≡ starts_with (summary_bytes (summary_of s)) o
-  field_is = p ∙ ap (λ x. patch o 0 (summary_bytes x)) v.is ∙ sym (starts_with-patch (summary_bytes (summary_of s)) o)
+  field_is = p ∙ ap (λ x. patch o 0 (summary_bytes x)) v ∙ sym (starts_with-patch (summary_bytes (summary_of s)) o)
 
   field-length : length o₁ ≡ length o
   field-length =
-      let n = output-size v in
+      let n = output-size s v in
       ap length field_is ∙ starts_with-length (summary_bytes (summary_of s)) o (rw (summary_bytes-length (summary_of s)) (omega arith))
 
   pub behind-field : summary_size ≤ length o₁
-  behind-field = let n = field-length in let k = field_fits v room in omega arith
+  behind-field = let n = field-length in let k = field_fits s v room in omega arith
 
   -- nothing behind the field
-  pub image-bare : {n : ℕ} → n ≡ r.errors + r.warnings → n ≡ 0 → o₁ ≡ starts_with (image_output s) o
+  pub image-bare : {n : ℕ} → n ≡ count_of a → n ≡ 0 → o₁ ≡ starts_with (image_output s) o
   unfolding image_output
-  image-bare m z = field_is ∙ rw (none-due v (sym m ∙ z), append-nil)
+  image-bare m z = field_is ∙ rw (none-due s v (sym m ∙ z), append-nil)
 
   -- the report there
-  pub image-whole : (k : ℕ) {zs : List ℕ} {q : Summary} → Summed s (mid_of summary_size k o₁) zs q → k ≡ length o₁ - summary_size → put_mid summary_size k o₁ zs ≡ starts_with (image_output s) o
+  pub image-whole : (k : ℕ) {zs : List ℕ} {q : Answer} → Summed s (mid_of summary_size k o₁) zs q → k ≡ length o₁ - summary_size → put_mid summary_size k o₁ zs ≡ starts_with (image_output s) o
   unfolding image_output
   image-whole k {zs} w l =
       let g = field-length in
-      let n = output-size v in
-      let m = report-size v in
+      let n = output-size s v in
+      let m = report-size s v in
       part-behind summary_size (summary_bytes (summary_of s)) (image_report s) o o₁ zs k (sym (summary_bytes-length (summary_of s))) (omega arith) field_is (w.bytes (part_room o₁ summary_size k (length (image_report s)) l (omega arith)))
 
 -- ---- its part of the output, before it is known whether there is room for all
 
-module _ {s : List ℕ} {r : Summary} (o : ℕ) (e : List ℕ) where
+module _ {s : List ℕ} {a : Answer} (o : ℕ) (e : List ℕ) where
   -- no room for the field
-  pub placed-short : Summarized s r → length e < summary_size → Placed s o e e r
-  placed-short v h = record { summarized = v; bytes = λ l. absurd (let n = output-size v in omega arith) }
+  pub placed-short : Summarized s a → length e < summary_size → Placed s o e e a
+  placed-short v h = record { summarized = v; bytes = λ l. absurd (let n = output-size s v.is in omega arith) }
 
-  pub placed-far : Summarized s r → length e - summary_size < o → Placed s o e e r
-  placed-far v h = record { summarized = v; bytes = λ l. absurd (let n = output-size v in omega arith) }
+  pub placed-far : Summarized s a → length e - summary_size < o → Placed s o e e a
+  placed-far v h = record { summarized = v; bytes = λ l. absurd (let n = output-size s v.is in omega arith) }
 
   -- the report, if it fits, then the field before it
-  pub placed-there : (k : ℕ) {zs e₂ : List ℕ} → Summed s (mid_of (o + summary_size) k e) zs r → k ≡ length e - (o + summary_size) → e₂ ≡ patch (put_mid (o + summary_size) k e zs) o (summary_bytes r) → Placed s o e e₂ r
+  pub placed-there : (k : ℕ) {zs e₂ : List ℕ} → Summed s (mid_of (o + summary_size) k e) zs a → k ≡ length e - (o + summary_size) → e₂ ≡ patch (put_mid (o + summary_size) k e zs) o (summary_bytes a) → Placed s o e e₂ a
   unfolding image_output
   placed-there k {zs} {e₂} w m p = record { summarized = w.summarized; bytes = λ l. there l }
     where
-      v : Summarized s r
+      v : Summarized s a
       v = w.summarized
 
-      b : length (summary_bytes r) ≡ summary_size
-      b = summary_bytes-length r
+      b : length (summary_bytes a) ≡ summary_size
+      b = summary_bytes-length a
 
       there : o + length (image_output s) ≤ length e → e₂ ≡ patch e o (image_output s)
       there l =
-          let n = output-size v in
-          let t = report-size v in
+          let n = output-size s v.is in
+          let t = report-size s v.is in
           let z : put_mid (o + summary_size) k e zs ≡ patch e (o + summary_size) (image_report s) =
           part-patched e (image_report s) (o + summary_size) k (w.bytes (part_room e (o + summary_size) k (length (image_report s)) m (omega arith))) m in
-          p ∙ rw z (rw b at (patch-reversed e o (summary_bytes r) (image_report s) (omega (arith, b)))) ∙ ap (λ x. patch e o (summary_bytes x ++ image_report s)) v.is
+          p ∙ rw z (rw b at (patch-reversed e o (summary_bytes a) (image_report s) (omega (arith, b)))) ∙ ap (λ x. patch e o (summary_bytes x ++ image_report s)) v.is
 
--- a summary's field from the parts that code puts side by side
-pub field-parts : (r : Summary) {os es ws : List ℕ} → os ≡ to_le_bytes w32 r.at → es ≡ to_le_bytes w32 r.errors → ws ≡ to_le_bytes w32 r.warnings
-    → 49 ∷ 13 ∷ 0 ∷ (r.refusal % 256) ∷ get_or os 0 0 ∷ get_or os 1 0 ∷ get_or os 2 0 ∷ get_or os 3 0 ∷ get_or es 0 0 ∷ get_or es 1 0 ∷ get_or es 2 0 ∷ get_or es 3 0
-    ∷ get_or ws 0 0 ∷ get_or ws 1 0 ∷ get_or ws 2 0 ∷ get_or ws 3 0 ∷ [] ≡ summary_bytes r
-unfolding summary_bytes le_bytes
-field-parts r x y z =
-    let a = r.at in
-    let e = r.errors in
-    let w = r.warnings in
+-- a field from the parts that code puts side by side
+pub field-parts : (r : Refusal) (c : Counted) {os es ws : List ℕ} → os ≡ to_le_bytes w32 r.offset → es ≡ to_le_bytes w32 c.errors → ws ≡ to_le_bytes w32 c.warnings
+    → 49 ∷ 13 ∷ 0 ∷ (r.number % 256) ∷ get_or os 0 0 ∷ get_or os 1 0 ∷ get_or os 2 0 ∷ get_or os 3 0 ∷ get_or es 0 0 ∷ get_or es 1 0 ∷ get_or es 2 0 ∷ get_or es 3 0
+    ∷ get_or ws 0 0 ∷ get_or ws 1 0 ∷ get_or ws 2 0 ∷ get_or ws 3 0 ∷ [] ≡ summary_field r c
+unfolding summary_field le_bytes
+field-parts r c x y z =
+    let a = r.offset in
+    let e = c.errors in
+    let w = c.warnings in
     rw (x, y, z, div-div-eq-div-mul a 256 256, div-div-eq-div-mul a 65536 256, div-div-eq-div-mul e 256 256, div-div-eq-div-mul e 65536 256, div-div-eq-div-mul w 256 256, div-div-eq-div-mul w 65536 256) refl

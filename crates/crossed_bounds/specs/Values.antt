@@ -12,7 +12,7 @@ use Rattle.crossed_bounds.specs.Ends.{End, Range}
 use Rattle.crossed_bounds.specs.declared.Bounds.{Bounds}
 use Rattle.crossed_bounds.specs.declared.Bounds.TheVariants.{Real, Integer}
 
--- the Rust's `Some`, before its type is asked
+-- the Rust's `Value`, before its type is asked
 pub data Datum : Type 0 where
   real : Float → Datum
   integer : ℤ → Datum

@@ -1,10 +1,15 @@
 // Rule 5, as rules/crossed_bounds.rs has it.
 #![tactic(auto)]
 
-// The Rust's `Bounds`: the ends of a Real range, where there are any, or those of an Integer range after the
-// defaults.
+// An end of a Real range: none, or a binary64 number.
+pub type End = Option<f64>;
+
+// The Rust's `Bounds`: the ends of a Real range, or those of an Integer range after the defaults.
 #[derive(Clone, Copy)]
 pub enum Bounds {
-    Real(Option<f64>, Option<f64>),
+    Real(End, End),
     Integer(i64, i64),
 }
+
+// The range of a set of attributes, where there is one.
+pub type Range = Option<Bounds>;

@@ -5,13 +5,13 @@
 ghost use Rattle.std.specs.Prelude.{◌≡◌, ◌+◌, ◌%◌, ◌<◌, ◌≤◌, length, get_or, take};
 ghost use Rattle.base.specs.Lists.{tab};
 ghost use Rattle.oce_model.specs.Model.{model_of};
-ghost use Rattle.structural_externals.specs.Columns.{Listed};
 ghost use Rattle.crossed_members.specs.Members.{member_count, is_member};
 ghost use Rattle.crossed_buckets.specs.Buckets.{bucket_count, bucket_of, is_in_crowd, crowded, noted, collected, crowded_members, member_value, Noted};
 
 use crossed_members::{member_external, member_iri, member_joins};
 use image_records::Image;
-use numbers::{at64, read64};
+use numbers::LittleEndian;
+use structural_externals::Externals;
 
 // How many buckets there are: a prime, so that each of the eight bytes tells.
 const BUCKETS: usize = 1021;
@@ -57,9 +57,9 @@ fn bucket_of(t: &[u8]) -> u16
 {
     let n = t.len();
     if n < TELLING_BYTES {
-        narrow(at64(t, 0))
+        narrow(u64::read_padded(t, 0))
     } else {
-        narrow(read64(t, n - TELLING_BYTES))
+        narrow(u64::read(t, n - TELLING_BYTES))
     }
 }
 
@@ -69,14 +69,11 @@ fn read_member(image: &Image, x: usize) -> Member
 {
     let i = member_iri(image, x);
     let bucket = if member_joins(image, x) {
-        Some(bucket_of(image.text(i)))
+        Some(bucket_of(image.text(usize::from(i))))
     } else {
         None
     };
-    Member {
-        iri: i as u16,
-        bucket,
-    }
+    Member { iri: i, bucket }
 }
 
 impl Known {
@@ -103,26 +100,26 @@ impl Known {
 // ---- what is known of each bucket
 
 // Member x, which its bucket has then, if it takes part.
-fn note_one(image: &Image, externals: &[u32], x: usize, known: &mut [Known]) -> Member
-    requires { Listed (model_of image.now) externals.now × is_member (model_of image.now) x × Noted (model_of image.now) x known.old }
-    ensures { (result ≡ member_value (model_of image.now) x) × Noted (model_of image.now) (x + 1) known.new }
+fn note_one(externals: &Externals, x: usize, known: &mut [Known]) -> Member
+    requires { is_member (model_of externals.now) x × Noted (model_of externals.now) x known.old }
+    ensures { (result ≡ member_value (model_of externals.now) x) × Noted (model_of externals.now) (x + 1) known.new }
 {
-    let member = read_member(image, x);
+    let member = read_member(externals.image(), x);
     if let Some(b) = member.bucket {
         let b = usize::from(b);
-        known[b] = known[b].with_member(member_external(image, externals, x));
+        known[b] = known[b].with_member(member_external(externals, x));
     }
     member
 }
 
 // All members.
-fn note_all(image: &Image, externals: &[u32], members: &mut [Member], known: &mut [Known])
-    requires { Listed (model_of image.now) externals.now × (length members.old ≡ member_count (model_of image.now)) × Noted (model_of image.now) 0 known.old }
-    ensures members { members.new ≡ tab (member_count (model_of image.now)) (member_value (model_of image.now)) }
-    ensures known { Noted (model_of image.now) (member_count (model_of image.now)) known.new }
+fn note_all(externals: &Externals, members: &mut [Member], known: &mut [Known])
+    requires { (length members.old ≡ member_count (model_of externals.now)) × Noted (model_of externals.now) 0 known.old }
+    ensures members { members.new ≡ tab (member_count (model_of externals.now)) (member_value (model_of externals.now)) }
+    ensures known { Noted (model_of externals.now) (member_count (model_of externals.now)) known.new }
 {
     for x in 0..members.len() {
-        members[x] = note_one(image, externals, x, known);
+        members[x] = note_one(externals, x, known);
     }
 }
 
@@ -153,16 +150,15 @@ fn collect_known(members: &[Member], known: &[Known], records: &mut [usize]) -> 
 // The members, in a column that has a place for each, and those whose bucket is crowded, at the front of
 // records; how many these are.
 pub fn collect_crowded(
-    image: &Image,
-    externals: &[u32],
+    externals: &Externals,
     members: &mut [Member],
     records: &mut [usize],
 ) -> usize
-    requires { Listed (model_of image.now) externals.now × (length members.old ≡ member_count (model_of image.now)) × (member_count (model_of image.now) ≤ length records.old) }
-    ensures records { (take result records.new ≡ crowded_members (model_of image.now) (member_count (model_of image.now))) × (result ≤ member_count (model_of image.now)) }
-    ensures members { members.new ≡ tab (member_count (model_of image.now)) (member_value (model_of image.now)) }
+    requires { (length members.old ≡ member_count (model_of externals.now)) × (member_count (model_of externals.now) ≤ length records.old) }
+    ensures records { (take result records.new ≡ crowded_members (model_of externals.now) (member_count (model_of externals.now))) × (result ≤ member_count (model_of externals.now)) }
+    ensures members { members.new ≡ tab (member_count (model_of externals.now)) (member_value (model_of externals.now)) }
 {
     let mut known = [Known::Empty; BUCKETS];
-    note_all(image, externals, members, &mut known);
+    note_all(externals, members, &mut known);
     collect_known(members, &known, records)
 }

@@ -137,8 +137,8 @@ module _ (s : List ℕ) {members : List Member} (e : members ≡ tab (member_cou
   unfolding member_key
   key-is = fun_ext (λ x. rw e (ap (text (model_of s)) (iri-is (model_of s) x)))
 
-  pub sorted-key : (xs : List ℕ) {ys : List ℕ} → ys ≡ sorted (goes_first (key_of s members)) xs → ys ≡ sorted (goes_first (member_key (model_of s))) xs
-  sorted-key xs f = f ∙ ap (λ k. sorted (goes_first k) xs) key-is
+  pub sorted-key : {s' : List ℕ} → s' ≡ s → (xs : List ℕ) {ys : List ℕ} → ys ≡ sorted (goes_first (key_of s' members)) xs → ys ≡ sorted (goes_first (member_key (model_of s))) xs
+  sorted-key i xs f = f ∙ rw i (ap (λ k. sorted (goes_first k) xs) key-is)
 
 -- ---- the whole rule
 

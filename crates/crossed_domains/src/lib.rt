@@ -8,13 +8,12 @@ ghost use Rattle.numbers.specs.Bytes.{short_range};
 ghost use Rattle.oce_model.specs.Format.{most_connectors, most_boundary_inputs};
 ghost use Rattle.oce_model.specs.Model.{model_of};
 ghost use Rattle.oce_diag.specs.Reporting.{Room, Puts};
-ghost use Rattle.structural_externals.specs.Columns.{Listed};
 ghost use Rattle.crossed_bounds.specs.CrossedBounds.{member_key, groups, groups_faults};
 ghost use Rattle.crossed_members.specs.Members.{member_count, is_member};
 ghost use Rattle.crossed_domains.specs.Runs.{runs};
 ghost use Rattle.crossed_domains.specs.Pass.{opened, grown, is_reported, pass_faults, same_key, AllMembers, Stepped};
 
-use crossed_bounds::Bounds;
+use crossed_bounds::Range;
 use crossed_buckets::{Member, NO_MEMBER, collect_crowded};
 use crossed_members::{member_count, member_external, member_iri, member_range, some_external};
 use crossed_ranges::{is_crossed, take_in, uncrossed};
@@ -22,6 +21,7 @@ use crossed_sort::ByText;
 use image_records::Image;
 use oce_diag::{DiagCode, Report, Subject, error};
 use oce_model::{MOST_BOUNDARY_INPUTS, MOST_CONNECTORS};
+use structural_externals::Externals;
 
 const RULE: u8 = 5;
 
@@ -39,7 +39,7 @@ pub struct Pass {
     pub first: usize,
     pub members: usize,
     pub external: bool,
-    pub kept: Option<Bounds>,
+    pub kept: Range,
 }
 
 // ---- the open group
@@ -47,7 +47,7 @@ pub struct Pass {
 impl Pass {
     // Of one member.
     #[tactic(auto, unfolding(crate::specs::Pass::opened))]
-    fn open(x: usize, external: bool, range: Option<Bounds>) -> Pass
+    fn open(x: usize, external: bool, range: Range) -> Pass
         ensures { result ≡ opened x external range }
     {
         Pass {
@@ -60,7 +60,7 @@ impl Pass {
 
     // With one member more.
     #[tactic(auto, unfolding(crate::specs::Pass::grown))]
-    fn grow(self, external: bool, range: Option<Bounds>) -> Pass
+    fn grow(self, external: bool, range: Range) -> Pass
         requires { self.members < short_range }
         ensures { result ≡ grown self external range }
     {
@@ -91,7 +91,7 @@ impl Pass {
             DiagCode::CrossedBounds,
             RULE,
             DOMAINS_DETAIL,
-            Subject::Text(iri as u32),
+            Subject::Text(u32::from(iri)),
             place as u32,
         );
         report.put_if(self.is_reported(), d);
@@ -104,15 +104,19 @@ fn same_key(image: &Image, x: usize, y: usize) -> bool
     requires { is_member (model_of image.now) x × is_member (model_of image.now) y }
     ensures { result ≡ same_key (model_of image.now) x y }
 {
-    image.same_text(member_iri(image, x), member_iri(image, y))
+    image.same_text(
+        usize::from(member_iri(image, x)),
+        usize::from(member_iri(image, y)),
+    )
 }
 
 // Takes in member x.
-fn step(image: &Image, externals: &[u32], p: Pass, x: usize, report: &mut Report) -> Pass
-    requires { Listed (model_of image.now) externals.now × is_member (model_of image.now) p.first × is_member (model_of image.now) x × (p.members < short_range) × Room 1 report.old }
-    ensures { Stepped (model_of image.now) p x report.old report.new result }
+fn step(externals: &Externals, p: Pass, x: usize, report: &mut Report) -> Pass
+    requires { is_member (model_of externals.now) p.first × is_member (model_of externals.now) x × (p.members < short_range) × Room 1 report.old }
+    ensures { Stepped (model_of externals.now) p x report.old report.new result }
 {
-    let external = member_external(image, externals, x);
+    let image = externals.image();
+    let external = member_external(externals, x);
     let range = member_range(image, x);
     if same_key(image, p.first, x) {
         return p.grow(external, range);
@@ -124,18 +128,19 @@ fn step(image: &Image, externals: &[u32], p: Pass, x: usize, report: &mut Report
 // ---- all members
 
 // Reports the groups, the runs of equal iris in the sorted members.
-fn report_groups(image: &Image, externals: &[u32], records: &[usize], report: &mut Report)
-    requires { Listed (model_of image.now) externals.now × AllMembers (member_count (model_of image.now)) records.now × (length records.now < short_range) × Room (length records.now) report.old }
-    ensures { Puts (length records.now) (groups_faults (model_of image.now) (runs (member_key (model_of image.now)) records.now)) report.old report.new }
+fn report_groups(externals: &Externals, records: &[usize], report: &mut Report)
+    requires { AllMembers (member_count (model_of externals.now)) records.now × (length records.now < short_range) × Room (length records.now) report.old }
+    ensures { Puts (length records.now) (groups_faults (model_of externals.now) (runs (member_key (model_of externals.now)) records.now)) report.old report.new }
 {
     let Some((first, rest)) = records.split_first() else {
         return;
     };
+    let image = externals.image();
     let x = *first;
-    let external = member_external(image, externals, x);
+    let external = member_external(externals, x);
     let mut p = Pass::open(x, external, member_range(image, x));
     for y in rest {
-        p = step(image, externals, p, *y, report);
+        p = step(externals, p, *y, report);
     }
     p.close(image, report);
 }
@@ -143,37 +148,35 @@ fn report_groups(image: &Image, externals: &[u32], records: &[usize], report: &m
 // Finds the members of crowded buckets, sorts them by their iris, and reports their groups; each column has
 // room for all members.
 fn report_crowded(
-    image: &Image,
-    externals: &[u32],
+    externals: &Externals,
     members: &mut [Member],
     records: &mut [usize],
     scratch: &mut [usize],
     report: &mut Report,
 )
-    requires { Listed (model_of image.now) externals.now × (length members.old ≡ member_count (model_of image.now)) × (member_count (model_of image.now) ≤ length records.old) × (member_count (model_of image.now) ≤ length scratch.old) × (member_count (model_of image.now) < short_range) × Room (member_count (model_of image.now)) report.old }
-    ensures { Puts (member_count (model_of image.now)) (groups_faults (model_of image.now) (groups (model_of image.now))) report.old report.new }
+    requires { (length members.old ≡ member_count (model_of externals.now)) × (member_count (model_of externals.now) ≤ length records.old) × (member_count (model_of externals.now) ≤ length scratch.old) × (member_count (model_of externals.now) < short_range) × Room (member_count (model_of externals.now)) report.old }
+    ensures { Puts (member_count (model_of externals.now)) (groups_faults (model_of externals.now) (groups (model_of externals.now))) report.old report.new }
 {
-    let k = collect_crowded(image, externals, members, records);
+    let k = collect_crowded(externals, members, records);
     let crowd = &mut records[..k];
     let order = ByText {
-        image: &*image,
+        image: externals.image(),
         members: &*members,
     };
     order.sort(crowd, scratch);
-    report_groups(image, externals, crowd, report);
+    report_groups(externals, crowd, report);
 }
 
 // The same with columns of its own, for up to N members.
-fn domains_in<const N: usize>(image: &Image, externals: &[u32], report: &mut Report)
-    requires { Listed (model_of image.now) externals.now × (member_count (model_of image.now) ≤ N) × (N ≤ most_connectors + most_boundary_inputs) × Room (member_count (model_of image.now)) report.old }
-    ensures { Puts (member_count (model_of image.now)) (groups_faults (model_of image.now) (groups (model_of image.now))) report.old report.new }
+fn domains_in<const N: usize>(externals: &Externals, report: &mut Report)
+    requires { (member_count (model_of externals.now) ≤ N) × (N ≤ most_connectors + most_boundary_inputs) × Room (member_count (model_of externals.now)) report.old }
+    ensures { Puts (member_count (model_of externals.now)) (groups_faults (model_of externals.now) (groups (model_of externals.now))) report.old report.new }
 {
     let mut members = [NO_MEMBER; N];
     let mut records = [0usize; N];
     let mut scratch = [0usize; N];
-    let n = member_count(image);
+    let n = member_count(externals.image());
     report_crowded(
-        image,
         externals,
         &mut members[..n],
         &mut records,
@@ -184,16 +187,16 @@ fn domains_in<const N: usize>(image: &Image, externals: &[u32], report: &mut Rep
 
 // Puts rule 5.4's diagnostics into the report. A group is reported only if a member is external, so where
 // none is there is nothing to sort.
-pub fn check_combined_input_domains(image: &Image, externals: &[u32], report: &mut Report)
-    requires { Listed (model_of image.now) externals.now × Room (member_count (model_of image.now)) report.old }
-    ensures { Puts (member_count (model_of image.now)) (groups_faults (model_of image.now) (groups (model_of image.now))) report.old report.new }
+pub fn check_combined_input_domains(externals: &Externals, report: &mut Report)
+    requires { Room (member_count (model_of externals.now)) report.old }
+    ensures { Puts (member_count (model_of externals.now)) (groups_faults (model_of externals.now) (groups (model_of externals.now))) report.old report.new }
 {
-    if !some_external(image, externals) {
+    if !some_external(externals) {
         return;
     }
-    if member_count(image) <= FEW_MEMBERS {
-        domains_in::<FEW_MEMBERS>(image, externals, report);
+    if member_count(externals.image()) <= FEW_MEMBERS {
+        domains_in::<FEW_MEMBERS>(externals, report);
     } else {
-        domains_in::<MOST_MEMBERS>(image, externals, report);
+        domains_in::<MOST_MEMBERS>(externals, report);
     }
 }

@@ -4,18 +4,16 @@
 
 ghost use Rattle.std.specs.Prelude.{◌≡◌, ◌+◌, ◌<◌, ◌≤◌};
 ghost use Rattle.base.specs.Lists.{below};
-ghost use Rattle.numbers.specs.Bytes.{short_range};
 ghost use Rattle.oce_model.specs.Format.{most_connectors, most_boundary_inputs};
 ghost use Rattle.oce_model.specs.Model.{model_of, connector_count};
-ghost use Rattle.structural_externals.specs.Columns.{Listed};
 ghost use Rattle.crossed_bounds.specs.CrossedBounds.{member_iri, member_attrs, member_external};
 ghost use Rattle.crossed_members.specs.Members.{member_count, is_member, member_range, member_joins};
 
-use crossed_bounds::Bounds;
+use crossed_bounds::Range;
 use crossed_ranges::range_of;
 use image_records::Image;
-use oce_model::{Attrs, ConnectorId, Dir, NO_TEXT};
-use structural_externals::is_external;
+use oce_model::{Attrs, ConnectorId, NO_TEXT};
+use structural_externals::Externals;
 
 // How many there are.
 pub fn member_count(image: &Image) -> usize
@@ -28,9 +26,9 @@ pub fn member_count(image: &Image) -> usize
 
 // The text number of its iri.
 #[tactic(auto, unfolding(crossed_bounds::specs::CrossedBounds::member_iri, image_records::specs::Records::connector_read))]
-pub fn member_iri(image: &Image, x: usize) -> usize
+pub fn member_iri(image: &Image, x: usize) -> u16
     requires { is_member (model_of image.now) x }
-    ensures { (result ≡ member_iri (model_of image.now) x) × (result < short_range) }
+    ensures { result ≡ member_iri (model_of image.now) x }
 {
     let n = image.connector_count();
     if x < n {
@@ -54,44 +52,39 @@ fn member_attrs(image: &Image, x: usize) -> Attrs
 }
 
 // The range of its attributes.
-pub fn member_range(image: &Image, x: usize) -> Option<Bounds>
+pub fn member_range(image: &Image, x: usize) -> Range
     requires { is_member (model_of image.now) x }
     ensures { result ≡ member_range (model_of image.now) x }
 {
     range_of(image, &member_attrs(image, x))
 }
 
-// It is a connector whose id is external; externals is the column that `list_externals` fills.
+// It is a connector whose id is external.
 #[tactic(auto, unfolding(crossed_bounds::specs::CrossedBounds::member_external, image_records::specs::Records::connector_read))]
-pub fn member_external(image: &Image, externals: &[u32], x: usize) -> bool
-    requires { Listed (model_of image.now) externals.now }
-    ensures { result ≡ member_external (model_of image.now) x }
+pub fn member_external(externals: &Externals, x: usize) -> bool
+    ensures { result ≡ member_external (model_of externals.now) x }
 {
-    x < image.connector_count()
-        && {
-            let id = image.connector(ConnectorId(x as u32)).id;
-            is_external(image, externals, id.0 as usize)
-        }
+    let image = externals.image();
+    x < image.connector_count() && externals.contains(image.connector(ConnectorId(x as u32)).id)
 }
 
 // It takes part in the grouping: an In with an iri, or a boundary input.
-#[tactic(auto, unfolding(crate::specs::Members::member_joins, crossed_bounds::specs::CrossedBounds::joins, image_records::specs::Records::connector_read))]
+#[tactic(auto, unfolding(crate::specs::Members::member_joins, crossed_bounds::specs::CrossedBounds::joins, image_records::specs::Records::connector_read), using(oce_model::proofs::Records::inwards_is))]
 pub fn member_joins(image: &Image, x: usize) -> bool
     ensures { result ≡ member_joins (model_of image.now) x }
 {
     image.connector_count() <= x
         || {
             let c = image.connector(ConnectorId(x as u32));
-            c.dir == Dir::In as usize && c.iri != NO_TEXT
+            c.dir.is_in() && c.iri != NO_TEXT
         }
 }
 
 // ---- all members
 
 // A member is external.
-pub fn some_external(image: &Image, externals: &[u32]) -> bool
-    requires { Listed (model_of image.now) externals.now }
-    ensures { result ≡ below (connector_count (model_of image.now)) (member_external (model_of image.now)) }
+pub fn some_external(externals: &Externals) -> bool
+    ensures { result ≡ below (connector_count (model_of externals.now)) (member_external (model_of externals.now)) }
 {
-    (0..image.connector_count()).any(|x| member_external(image, externals, x))
+    (0..externals.image().connector_count()).any(|x| member_external(externals, x))
 }

@@ -7,7 +7,7 @@ ghost use Rattle.crossed_bounds.specs.Ranges.{crossed_ends, crossed_bounds, cros
 ghost use Rattle.oce_model.specs.Model.{model_of};
 ghost use Rattle.crossed_ranges.specs.Read.{real_read, integer_read};
 
-use crossed_bounds::Bounds;
+use crossed_bounds::{Bounds, End, Range};
 use image_records::Image;
 use numbers::{is_finite, is_set};
 use oce_model::{Attrs, IntAttrs, Kind, MAX_BIT, MIN_BIT, RealAttrs};
@@ -15,7 +15,7 @@ use oce_model::{Attrs, IntAttrs, Kind, MAX_BIT, MIN_BIT, RealAttrs};
 // ---- crossed: min is above max, by number
 
 #[tactic(auto, unfolding(crossed_bounds::specs::Ranges::crossed_ends))]
-fn ends_crossed(lo: Option<f64>, hi: Option<f64>) -> bool
+fn ends_crossed(lo: End, hi: End) -> bool
     ensures { result ≡ crossed_ends lo hi }
 {
     match (lo, hi) {
@@ -36,7 +36,7 @@ fn bounds_crossed(b: Bounds) -> bool
 
 // There is a range, and it is crossed.
 #[tactic(auto, unfolding(crossed_bounds::specs::Ranges::crossed))]
-pub fn is_crossed(r: Option<Bounds>) -> bool
+pub fn is_crossed(r: Range) -> bool
     ensures { result ≡ crossed r }
 {
     r.is_some_and(bounds_crossed)
@@ -46,7 +46,7 @@ pub fn is_crossed(r: Option<Bounds>) -> bool
 
 // Of two ends the tighter one, of two equal ones the first.
 #[tactic(auto, unfolding(crossed_bounds::specs::Ranges::higher))]
-fn higher_end(x: Option<f64>, y: Option<f64>) -> Option<f64>
+fn higher_end(x: End, y: End) -> End
     ensures { result ≡ higher x y }
 {
     match (x, y) {
@@ -56,7 +56,7 @@ fn higher_end(x: Option<f64>, y: Option<f64>) -> Option<f64>
 }
 
 #[tactic(auto, unfolding(crossed_bounds::specs::Ranges::lower))]
-fn lower_end(x: Option<f64>, y: Option<f64>) -> Option<f64>
+fn lower_end(x: End, y: End) -> End
     ensures { result ≡ lower x y }
 {
     match (x, y) {
@@ -67,7 +67,7 @@ fn lower_end(x: Option<f64>, y: Option<f64>) -> Option<f64>
 
 // The intersection of two ranges of one kind; two kinds have none.
 #[tactic(auto, unfolding(crossed_bounds::specs::Ranges::intersect, crossed_bounds::specs::Ranges::higher_integer, crossed_bounds::specs::Ranges::lower_integer))]
-pub fn intersect(x: Bounds, y: Bounds) -> Option<Bounds>
+pub fn intersect(x: Bounds, y: Bounds) -> Range
     ensures { result ≡ intersect x y }
 {
     match (x, y) {
@@ -83,7 +83,7 @@ pub fn intersect(x: Bounds, y: Bounds) -> Option<Bounds>
 
 // A crossed range doesn't count.
 #[tactic(auto, unfolding(crossed_bounds::specs::Ranges::uncrossed))]
-pub fn uncrossed(r: Option<Bounds>) -> Option<Bounds>
+pub fn uncrossed(r: Range) -> Range
     ensures { result ≡ uncrossed r }
 {
     r.filter(|b| !bounds_crossed(*b))
@@ -91,7 +91,7 @@ pub fn uncrossed(r: Option<Bounds>) -> Option<Bounds>
 
 // What is kept of the members before, and one member more.
 #[tactic(auto, unfolding(crossed_bounds::specs::Ranges::take_in))]
-pub fn take_in(kept: Option<Bounds>, r: Option<Bounds>) -> Option<Bounds>
+pub fn take_in(kept: Range, r: Range) -> Range
     ensures { result ≡ take_in kept r }
 {
     intersect(kept?, uncrossed(r)?)
@@ -101,7 +101,7 @@ pub fn take_in(kept: Option<Bounds>, r: Option<Bounds>) -> Option<Bounds>
 
 // The range of Real attributes; with an end that isn't finite there is none.
 #[tactic(auto, unfolding(crate::specs::Read::real_read))]
-pub fn real_range(a: RealAttrs) -> Option<Bounds>
+pub fn real_range(a: RealAttrs) -> Range
     ensures { result ≡ real_read a }
 {
     let min = is_set(a.marks, MIN_BIT).then_some(a.min);
@@ -111,7 +111,7 @@ pub fn real_range(a: RealAttrs) -> Option<Bounds>
 
 // The range of Integer attributes; min and max stand for an end that isn't set.
 #[tactic(auto, unfolding(crate::specs::Read::integer_read))]
-pub fn integer_range(a: IntAttrs, min: i64, max: i64) -> Option<Bounds>
+pub fn integer_range(a: IntAttrs, min: i64, max: i64) -> Range
     ensures { result ≡ integer_read a min max }
 {
     Some(Bounds::Integer(
@@ -122,7 +122,7 @@ pub fn integer_range(a: IntAttrs, min: i64, max: i64) -> Option<Bounds>
 
 // The range of attributes, by the defaults of the image's head; `None` where they have none.
 #[tactic(auto, unfolding(crossed_bounds::specs::Ranges::range_of))]
-pub fn range_of(image: &Image, a: &Attrs) -> Option<Bounds>
+pub fn range_of(image: &Image, a: &Attrs) -> Range
     ensures { result ≡ range_of (model_of image.now).defaults a.now }
 {
     if a.kind == Kind::Real as u8 {

@@ -32,10 +32,10 @@ module _ (m : Model) (i : ℕ) {a : Attrs} {r₀ r : Report} where
   unfolding input_crossed
   input-puts p e g = rw (← e, ← g) p
 
-  pub output-puts : {o : BoundaryOutputFront} → Puts 1 (crossed_faults m 3 (Text o.iri) i a) r₀ r → o ≡ output_read (boundary_output m i) → a ≡ (boundary_output m i).attrs → Puts 1 (output_crossed m i) r₀ r
+  pub output-puts : {o : BoundaryOutputFront} {t : ℕ} → Puts 1 (crossed_faults m 3 (Text t) i a) r₀ r → t ≡ o.iri → o ≡ output_read (boundary_output m i) → a ≡ (boundary_output m i).attrs → Puts 1 (output_crossed m i) r₀ r
   unfolding output_crossed output_read
-  output-puts {o} p e g =
-      let z : o.iri ≡ (boundary_output m i).iri = ap (λ (k : BoundaryOutputFront). k.iri) e in
+  output-puts {o} {t} p h e g =
+      let z : t ≡ (boundary_output m i).iri = h ∙ ap (λ (k : BoundaryOutputFront). k.iri) e in
       rw (← z, ← g) p
 
 -- ---- the whole rule

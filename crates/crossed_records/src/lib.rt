@@ -4,7 +4,6 @@
 ghost use Rattle.std.specs.Prelude.{◌<◌};
 ghost use Rattle.oce_model.specs.Model.{model_of, connector_count, boundary_input_count, boundary_output_count};
 ghost use Rattle.oce_diag.specs.Reporting.{Room, Puts};
-ghost use Rattle.structural_externals.specs.Columns.{Listed};
 ghost use Rattle.crossed_bounds.specs.CrossedBounds.{crossed_faults, connector_crossed, input_crossed, output_crossed, rule5};
 ghost use Rattle.crossed_records.specs.Most.{most_crossed};
 
@@ -13,6 +12,7 @@ use crossed_ranges::{is_crossed, range_of};
 use image_records::Image;
 use oce_diag::{DiagCode, Report, Subject, error, subject_of};
 use oce_model::{Attrs, ConnectorId};
+use structural_externals::Externals;
 
 const RULE: u8 = 5;
 
@@ -53,7 +53,7 @@ pub fn input_crossed(image: &Image, i: usize, report: &mut Report)
     prove!(i < image.boundary_input_count());
     let iri = image.boundary_input_iri(i);
     let a = image.boundary_input_attrs(i);
-    let subject = Subject::Text(iri as u32);
+    let subject = Subject::Text(u32::from(iri));
     put_crossed(image, &a, INPUT_DETAIL, subject, i as u32, report);
 }
 
@@ -65,17 +65,18 @@ pub fn output_crossed(image: &Image, i: usize, report: &mut Report)
     prove!(i < image.boundary_output_count());
     let o = image.boundary_output(i);
     let a = image.boundary_output_attrs(i);
-    let subject = Subject::Text(o.iri as u32);
+    let subject = Subject::Text(u32::from(o.iri));
     put_crossed(image, &a, OUTPUT_DETAIL, subject, i as u32, report);
 }
 
 // ---- the whole rule
 
-// externals is the column that `list_externals` fills.
-pub fn check_crossed_bounds(image: &Image, externals: &[u32], report: &mut Report)
-    requires { Listed (model_of image.now) externals.now × Room most_crossed report.old }
-    ensures { Puts most_crossed (rule5 (model_of image.now)) report.old report.new }
+// All of them, then the groups of rule 5.4.
+pub fn check_crossed_bounds(externals: &Externals, report: &mut Report)
+    requires { Room most_crossed report.old }
+    ensures { Puts most_crossed (rule5 (model_of externals.now)) report.old report.new }
 {
+    let image = externals.image();
     'connectors: for i in 0..image.connector_count() {
         connector_crossed(image, ConnectorId(i as u32), report);
     }
@@ -85,5 +86,5 @@ pub fn check_crossed_bounds(image: &Image, externals: &[u32], report: &mut Repor
     'outputs: for i in 0..image.boundary_output_count() {
         output_crossed(image, i, report);
     }
-    check_combined_input_domains(image, externals, report);
+    check_combined_input_domains(externals, report);
 }

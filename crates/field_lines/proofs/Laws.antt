@@ -1,6 +1,5 @@
 -- Laws of the lines that list an image's fields, one field more at a time.
-use Prim.Native.Nat.{ℕ, zero, suc, ◌+◌, ◌<◌, ◌≤◌}
-use native.Mathlib.Decide.{dec_lt}
+use Prim.Native.Nat.{ℕ, zero, suc, ◌+◌, ◌≤◌}
 use native.Mathlib.Omega.{arith}
 use mathlib.Core.Path.{◌≡◌, refl, sym, ap, ◌∙◌}
 use mathlib.Core.Bool.{Bool, true, false, cond}
@@ -10,11 +9,11 @@ use borrow.Author.Tests.{lt-leb}
 use Rattle.numbers.specs.Bytes.{byte, le16}
 use Rattle.oce_model.specs.Format.{leading_bytes}
 use Rattle.oce_model.specs.Image.{field_at, field_end, fields_from, fields, ord_of}
-use Rattle.std.specs.Prelude.{Option, None, Some}
+use Rattle.std.specs.Prelude.{Option, None}
 use Rattle.reader.specs.Reading.{whole, found_at, after_at}
 use Rattle.reader.specs.declared.Found.{Found}
 use Rattle.reader.proofs.Laws.{Stands, stands_none}
-use Rattle.field_lines.specs.Lines.{field_line, field_lines, lines_from, longest_field_line, Pieced}
+use Rattle.field_lines.specs.Lines.{field_line, field_lines, lines_from, Pieced}
 
 -- ---- the lines from an offset on
 
@@ -92,15 +91,3 @@ module _ {s : List ℕ} {from : ℕ} {b b' : List ℕ} {at : ℕ} (v : Listing s
   -- no field is left
   pub listing_end : (room : ℕ) → ◌≡◌ {A = Option Found} None (found_at s at) → Pieced s from room b b' None
   listing_end room h = record { lines = v.lines; bytes = v.bytes; all = v.all ∙ ap (λ (xs : List ℕ). v.lines ++ xs) (none (length s) s at 0 0 (stands_none s at h)); within = tt; moves = λ _. tt }
-
-  -- no room is left
-  pub listing_full : {room : ℕ} → room < length b' + longest_field_line → Pieced s from room b b' (Some at)
-  listing_full {room} l = record { lines = v.lines; bytes = v.bytes; all = v.all; within = v.within; moves = λ r. arm (dec_lt from at) r }
-    where
-      arm : Dec (from < at) → length b + longest_field_line ≤ room → from < at
-      arm (yes p) r = p
-      arm (no p) r =
-          let f = v.forward in
-          let e : at ≡ from = omega arith in
-          let n : length b' ≡ length b = rw (v.bytes, v.started e, append-nil b) in
-          absurd (omega arith)

@@ -11,7 +11,7 @@ use Rattle.base.specs.Buffers.{patch, starts_with}
 use Rattle.base.proofs.Buffers.{patch-length, patch-patch}
 use Rattle.base.proofs.Members.{get_or-default}
 use Rattle.base.proofs.Patches.{patched, patched-next, patched-length}
-use Rattle.numbers.specs.Bytes.{byte_range, short_range, le_bytes}
+use Rattle.numbers.specs.Bytes.{short_range, le_bytes}
 use Rattle.numbers.proofs.Bytes.{le_bytes-low, le_bytes-length}
 use Rattle.oce_model.specs.Format.{attrs_length, attrs_quantity_at, attrs_min_at, longest_image, quantity_bit, unit_bit, display_unit_bit, min_bit, max_bit, nominal_bit, connector_tag, connector_size, connector_attrs, boundary_output_tag, boundary_output_size, boundary_output_attrs, fixed_length}
 use Rattle.oce_model.specs.Image.{start_of}

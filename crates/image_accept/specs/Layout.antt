@@ -1,16 +1,15 @@
 -- The layout of an accepted image, and what `accept` answers: refusals 1 to 8. FORMAT 3 and 6.
 use Rattle.std.specs.Prelude.{ℕ, ◌≡◌, List, map, length}
-use Rattle.std.specs.Prelude.{Option, Some, None}
+use Rattle.std.specs.Prelude.{Option, Some, None, Result, Ok, Err}
 use Rattle.base.specs.Buffers.{starts_with}
 use Rattle.oce_model.specs.Format.{text_tag, block_tag, connector_tag, connection_tag, external_input_tag, boundary_input_tag, boundary_output_tag}
 use Rattle.oce_model.specs.Image.{fields, of_tag, start_of}
 use Rattle.oce_model.specs.Model.{model_of}
-use Rattle.oce_model.specs.Refusals.{Refusal, refusal}
+use Rattle.oce_model.specs.Refusals.{refusal}
+use Rattle.oce_model.specs.declared.Refusal.{Refusal}
 use Rattle.oce_model.specs.declared.Field.{Field}
 use Rattle.image_accept.specs.declared.Section.{Section}
 use Rattle.image_accept.specs.declared.Layout.{Layout}
-use Rattle.image_accept.specs.declared.Acceptance.{Acceptance}
-use Rattle.image_accept.specs.declared.Acceptance.TheVariants.{Refused, Accepted}
 
 -- where the records of a tag begin, and how many there are
 unfoldable pub section_of : ℕ → List ℕ → Section
@@ -34,14 +33,24 @@ layout_of s = record {
 unfoldable pub offsets_of : ℕ → List ℕ → List ℕ
 offsets_of t s = map (λ (f : Field). f.at) (of_tag t (fields s))
 
--- an answer: the refusal's number and offset, or the layout
-abbrev pub accepts : List ℕ → Option Refusal → Acceptance
-accepts s None = Accepted (layout_of s)
-accepts s (Some r) = Refused r.number r.offset
+-- an answer: the refusal, or the layout
+abbrev pub accepts : List ℕ → Option Refusal → Result Layout Refusal
+accepts s None = Ok (layout_of s)
+accepts s (Some r) = Err r
 
 -- what `accept` answers
-unfoldable pub acceptance : List ℕ → Acceptance
+unfoldable pub acceptance : List ℕ → Result Layout Refusal
 acceptance s = accepts s (refusal s)
+
+-- a refusal, if there is one, as an error
+abbrev pub refused : Option Refusal → Result (Unit {0}) Refusal
+refused None = Ok tt
+refused (Some r) = Err r
+
+-- the same of refusal k at the offset that was found, if one was
+abbrev pub refused_by : ℕ → Option ℕ → Result (Unit {0}) Refusal
+refused_by k None = Ok tt
+refused_by k (Some at) = Err (record { number = k; offset = at })
 
 -- ---- what every later reader is given
 

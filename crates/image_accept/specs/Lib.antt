@@ -1,4 +1,3 @@
--- Accepting an image: its layout, its sections one after the other, and what `accept` answers and leaves in its tables.
+-- Accepting an image: its layout, what passing its fields notes, and what `accept` answers and leaves in its tables.
 pub mod Layout
-pub mod Sections
-pub mod Sifting
+pub mod Passing

@@ -1,23 +1,26 @@
 // Every byte string is accepted, with its layout, or refused with the first refusal that applies.
 #![tactic(auto)]
 
-ghost use Rattle.std.specs.Prelude.{◌≡◌, ◌+◌, ◌<◌, ◌≤◌, length};
-ghost use Rattle.std.specs.Prelude.{None};
-ghost use Rattle.base.specs.Buffers.{starts_with};
-ghost use Rattle.oce_model.specs.Format.{head_tag, text_tag, block_tag, connector_tag, highest_tag, most, shortest_image, longest_image};
-ghost use Rattle.oce_model.specs.Image.{fields, of_tag};
-ghost use Rattle.oce_model.specs.Refusals.{refusal, refusals_from};
-ghost use Rattle.image_accept.specs.Layout.{layout_of, offsets_of, acceptance, TabledIfAccepted};
-ghost use Rattle.image_accept.specs.Sections.{Tagged, Begins, PassedSection, fixed_of, verdict_of};
-ghost use Rattle.image_accept.specs.Sifting.{AtStart, Entering, Sifts, TabledIfFine, ReadyFor, Follows, Fixes, Surveys, WellFramed};
+ghost use Rattle.std.specs.Prelude.{◌≡◌, ◌≢◌, ◌&&◌, ◌||◌, eqb, ◌<◌, ◌≤◌, ◌^◌, length, Bool, None, IfSome};
+ghost use Rattle.std.specs.Result.{result_ok};
+ghost use Rattle.oce_model.specs.Format.{text_tag, block_tag, highest_tag, most, shortest_image, longest_image};
+ghost use Rattle.oce_model.specs.Image.{fields, first, of_tag};
+ghost use Rattle.oce_model.specs.declared.Field.{Field};
+ghost use Rattle.image_framing.specs.Walk.{end_of, Tests};
+ghost use Rattle.image_sieve.specs.Faulty.{at_fault};
+ghost use Rattle.oce_model.specs.Refusals.{bad_size, bad_tag, refusal, refusals_from};
+ghost use Rattle.image_accept.specs.Layout.{acceptance, refused, refused_by, TabledIfAccepted};
+ghost use Rattle.image_accept.specs.Passing.{Begun, listed};
 
-use image_framing::{first_fault, first_field, frame, next_field, runs_past};
-use image_sieve::{is_faulty, is_faulty_list, other_faulty};
-use numbers::{at64, int_of_bits};
+use image_contents::{bad_contents, bad_reference};
+use image_faults::{bad_length, bad_tag, bad_text, too_many};
+use image_framing::{Fields, end_of, first_fault, frame};
+use image_sieve::is_faulty;
+use numbers::{LittleEndian, int_of_bits};
 use oce_model::{
     BLOCK_TAG, BOUNDARY_INPUT_TAG, BOUNDARY_OUTPUT_TAG, CONNECTION_TAG, CONNECTOR_TAG,
-    EXTERNAL_INPUT_TAG, Field, HEAD_MAX_AT, HEAD_MIN_AT, HEAD_TAG, LONGEST_IMAGE, MOST_BLOCKS,
-    MOST_TEXTS, SHORTEST_IMAGE, TEXT_TAG,
+    EXTERNAL_INPUT_TAG, Field, HEAD_MAX_AT, HEAD_MIN_AT, LONGEST_IMAGE, MOST_BLOCKS, MOST_TEXTS,
+    Refusal, SHORTEST_IMAGE, TAG_COUNT, TEXT_TAG,
 };
 
 // Where the records of a tag begin, and how many there are.
@@ -42,490 +45,165 @@ pub struct Layout {
     pub max: i64,
 }
 
-// What `accept` answers.
-#[derive(Clone, Copy)]
-pub enum Acceptance {
-    Refused { number: u32, at: u32 },
-    Accepted(Layout),
-}
+// ---- one pass for an image with nothing at fault
 
-// Whether an image is turned away.
-#[derive(Clone, Copy)]
-enum Verdict {
-    Away { number: u32, at: u32 },
-    Fine,
-}
-
-// ---- sections
-
-// A section that was passed, and the field behind it.
-#[derive(Clone, Copy)]
-struct Run {
-    pub records: Section,
-    pub next: Field,
-}
-
-// Passes the section of a tag, which begins at f.
-fn pass_section(s: &[u8], f: Field, tag: usize) -> Run
-    requires { Begins tag s.now f }
-    ensures { PassedSection tag s.now result }
+// Notes one more field of its tag. The sections of tags behind the one before begin with it.
+fn note(sections: &mut [Section; TAG_COUNT], f: Field)
+    requires { (f.prev ≤ f.tag) × (f.tag ≤ highest_tag) × (f.ord < longest_image) }
+    ensures { Begun f sections.old sections.new }
 {
-    let start = f.at;
-    let mut count = 0;
-    let mut g = f;
-    while g.at < s.len() {
-        if g.tag != tag {
-            return Run {
-                records: Section { start, count },
-                next: g,
-            };
+    for t in f.prev + 1..f.tag + 1 {
+        sections[t].start = f.at;
+    }
+    sections[f.tag].count = f.ord + 1;
+}
+
+// Puts the offset of a field with a tag into the tag's table.
+fn list(table: &mut [usize], tag: usize, f: Field)
+    requires { f.tag ≡ tag → f.ord < length table.old }
+    ensures { table.new ≡ listed tag f table.old }
+{
+    if f.tag == tag {
+        table[f.ord] = f.at;
+    }
+}
+
+// A field that lies in the image is at fault under one of refusals 4 to 8, where there are n texts, or is the first
+// of its tag and has a bad one. Where others of its tag stand right before it, its tag is good, unless it is one too many.
+fn is_refused(n: usize, s: &[u8], f: Field) -> bool
+    requires { (end_of f ≤ length s.now) × (length s.now ≤ longest_image) }
+    ensures { result ≡ (at_fault n s.now f || (eqb f.ord 0 && bad_tag f)) }
+{
+    is_faulty(n, s, f) || f.ord == 0 && bad_tag(f)
+}
+
+// Passes the fields once, up to the first that is at fault under one of refusals 2 to 8: the layout of an image
+// that is accepted, with the offsets of its texts and blocks in the tables.
+fn survey(
+    s: &[u8],
+    texts: &mut [usize; MOST_TEXTS],
+    blocks: &mut [usize; MOST_BLOCKS],
+) -> Option<Layout>
+    requires { (shortest_image ≤ length s.now) × (length s.now ≤ longest_image) }
+    ensures layout { result ≡ result_ok (acceptance s.now) }
+    ensures texts { TabledIfAccepted text_tag s.now texts.new }
+    ensures blocks { TabledIfAccepted block_tag s.now blocks.new }
+{
+    let behind_all = Section {
+        start: s.len(),
+        count: 0,
+    };
+    let mut sections = [behind_all; TAG_COUNT];
+    let mut end = 0;
+    for f in Fields::of(s) {
+        if is_refused(sections[TEXT_TAG].count, s, f) {
+            return None;
         }
-        count += 1;
-        g = next_field(s, g);
+        note(&mut sections, f);
+        list(texts, TEXT_TAG, f);
+        list(blocks, BLOCK_TAG, f);
+        end = end_of(f);
     }
-    Run {
-        records: Section { start, count },
-        next: g,
+    if end < s.len() {
+        return None;
     }
+    Some(Layout {
+        texts: sections[TEXT_TAG],
+        blocks: sections[BLOCK_TAG],
+        connectors: sections[CONNECTOR_TAG],
+        connections: sections[CONNECTION_TAG],
+        externals: sections[EXTERNAL_INPUT_TAG],
+        inputs: sections[BOUNDARY_INPUT_TAG],
+        outputs: sections[BOUNDARY_OUTPUT_TAG],
+        min: int_of_bits(u64::read_padded(s, HEAD_MIN_AT)),
+        max: int_of_bits(u64::read_padded(s, HEAD_MAX_AT)),
+    })
 }
 
-// The same, with the offset of each field put into a table.
-fn table_section(s: &[u8], f: Field, tag: usize, table: &mut [usize]) -> Run
-    requires begins { Begins tag s.now f }
-    requires room { length (offsets_of tag s.now) ≤ length table.old }
-    ensures passed { PassedSection tag s.now result }
-    ensures table { table.new ≡ starts_with (offsets_of tag s.now) table.old }
+// ---- refusals, one after the other
+
+// The refusals' numbers.
+const BAD_SIZE: u32 = 1;
+
+const RUNS_PAST: u32 = 2;
+
+const BAD_TAG: u32 = 3;
+
+const BAD_LENGTH: u32 = 4;
+
+const TOO_MANY: u32 = 5;
+
+const BAD_CONTENTS: u32 = 6;
+
+const BAD_TEXT: u32 = 7;
+
+const BAD_REFERENCE: u32 = 8;
+
+// A refusal by its number, with the offset of a field that was found, if one was.
+fn refuse(number: u32, found: Option<usize>) -> Result<(), Refusal>
+    requires { IfSome found (λ at. at < 2 ^ 32) }
+    ensures { result ≡ refused_by number found }
 {
-    let start = f.at;
-    let mut n = 0;
-    let mut g = f;
-    while g.at < s.len() {
-        if g.tag != tag {
-            return Run {
-                records: Section { start, count: n },
-                next: g,
-            };
-        }
-        table[n] = g.at;
-        n += 1;
-        g = next_field(s, g);
-    }
-    Run {
-        records: Section { start, count: n },
-        next: g,
+    match found {
+        None => Ok(()),
+        Some(at) => Err(Refusal {
+            number,
+            offset: at as u32,
+        }),
     }
 }
 
-// The sections whose records have a fixed size.
-#[derive(Clone, Copy)]
-struct Fixed {
-    pub connectors: Section,
-    pub connections: Section,
-    pub externals: Section,
-    pub inputs: Section,
-    pub outputs: Section,
-}
-
-// Passes them, from the connectors on.
-fn fixed_sections(s: &[u8], f: Field) -> Fixed
-    requires { Begins connector_tag s.now f }
-    ensures { result ≡ fixed_of s.now }
+// The same for the first field that passes a test.
+fn refuse_first<F: Fn(Field) -> bool>(s: &[u8], number: u32, test: F) -> Result<(), Refusal>
+    requires size { length s.now ≤ longest_image }
+    requires tested { (f : Field) → end_of f ≤ length s.now → F.pre test f }
+    ensures { (p : Field → Bool) → Tests (F.post test) s.now p → result ≡ refused_by number (first p (fields s.now)) }
 {
-    let connectors = pass_section(s, f, CONNECTOR_TAG);
-    let connections = pass_section(s, connectors.next, CONNECTION_TAG);
-    let externals = pass_section(s, connections.next, EXTERNAL_INPUT_TAG);
-    let inputs = pass_section(s, externals.next, BOUNDARY_INPUT_TAG);
-    let outputs = pass_section(s, inputs.next, BOUNDARY_OUTPUT_TAG);
-    let connectors = connectors.records;
-    let connections = connections.records;
-    let externals = externals.records;
-    let inputs = inputs.records;
-    let outputs = outputs.records;
-    Fixed {
-        connectors,
-        connections,
-        externals,
-        inputs,
-        outputs,
-    }
+    refuse(number, first_fault(s, test))
 }
-
-// ---- refusals
 
 // How many texts there are.
 fn text_count(s: &[u8]) -> usize
-    requires { Tagged s.now }
+    requires { length s.now ≤ longest_image }
     ensures { result ≡ length (of_tag text_tag (fields s.now)) }
 {
-    let head = pass_section(s, first_field(s), HEAD_TAG);
-    let texts = pass_section(s, head.next, TEXT_TAG);
-    let records = texts.records;
-    records.count
+    Fields::of(s).filter(|f| f.tag == TEXT_TAG).count()
 }
 
 // Refusals 4 to 8.
-fn refuse_fields(s: &[u8]) -> Verdict
-    requires { Tagged s.now }
-    ensures { result ≡ verdict_of (refusals_from 5 4 s.now (fields s.now)) }
+fn refuse_fields(s: &[u8]) -> Result<(), Refusal>
+    requires { length s.now ≤ longest_image }
+    ensures { result ≡ refused (refusals_from 5 4 s.now (fields s.now)) }
 {
     let n = text_count(s);
-    let mut k = 4;
-    while k < 9 {
-        let found = first_fault(k, n, s);
-        match found {
-            Some(at) => {
-                return Verdict::Away {
-                    number: k as u32,
-                    at: at as u32,
-                };
-            }
-            None => {}
-        }
-        k += 1;
-    }
-    Verdict::Fine
+    refuse_first(s, BAD_LENGTH, |f| bad_length(s, f))?;
+    refuse_first(s, TOO_MANY, too_many)?;
+    refuse_first(s, BAD_CONTENTS, |f| bad_contents(s, f))?;
+    refuse_first(s, BAD_TEXT, |f| bad_text(s, f))?;
+    refuse_first(s, BAD_REFERENCE, |f| bad_reference(n, s, f))
 }
 
-// The layout of an accepted image; the tables get the offsets of its texts and blocks.
-fn lay_out(s: &[u8], texts: &mut [usize], blocks: &mut [usize]) -> Layout
-    requires accepted { refusal s.now ≡ None }
-    requires text_room { most text_tag ≤ length texts.old }
-    requires block_room { most block_tag ≤ length blocks.old }
-    ensures layout { result ≡ layout_of s.now }
-    ensures texts { texts.new ≡ starts_with (offsets_of text_tag s.now) texts.old }
-    ensures blocks { blocks.new ≡ starts_with (offsets_of block_tag s.now) blocks.old }
+// Refusals 2 to 8, for an image of a good length.
+fn refuse_image(s: &[u8]) -> Result<(), Refusal>
+    requires { (shortest_image ≤ length s.now) × (length s.now ≤ longest_image) }
+    ensures { result ≡ refused (refusal s.now) }
 {
-    let head = pass_section(s, first_field(s), HEAD_TAG);
-    let texts = table_section(s, head.next, TEXT_TAG, texts);
-    let blocks = table_section(s, texts.next, BLOCK_TAG, blocks);
-    let rest = fixed_sections(s, blocks.next);
-    let texts = texts.records;
-    let blocks = blocks.records;
-    let connectors = rest.connectors;
-    let connections = rest.connections;
-    let externals = rest.externals;
-    let inputs = rest.inputs;
-    let outputs = rest.outputs;
-    Layout {
-        texts,
-        blocks,
-        connectors,
-        connections,
-        externals,
-        inputs,
-        outputs,
-        min: int_of_bits(at64(s, HEAD_MIN_AT)),
-        max: int_of_bits(at64(s, HEAD_MAX_AT)),
-    }
-}
-
-// ---- one pass for an image with nothing at fault
-
-// A section that was passed, with nothing at fault where fine, and the field behind it.
-#[derive(Clone, Copy)]
-struct Sifted {
-    pub fine: bool,
-    pub records: Section,
-    pub next: Field,
-}
-
-// Passes the head, where the first field f is one.
-fn sift_head(s: &[u8], f: Field) -> Sifted
-    requires { AtStart s.now f }
-    ensures { Sifts head_tag s.now result }
-{
-    let start = f.at;
-    if f.tag != HEAD_TAG {
-        return Sifted {
-            fine: false,
-            records: Section { start, count: 0 },
-            next: f,
-        };
-    }
-    if runs_past(s, f) {
-        return Sifted {
-            fine: false,
-            records: Section { start, count: 0 },
-            next: f,
-        };
-    }
-    if other_faulty(0, s, f) {
-        return Sifted {
-            fine: false,
-            records: Section { start, count: 0 },
-            next: f,
-        };
-    }
-    Sifted {
-        fine: true,
-        records: Section { start, count: 1 },
-        next: next_field(s, f),
-    }
-}
-
-// Passes the section of a tag, which begins at f, up to a field that runs past the image's end or is at
-// fault; n is the number of texts, for the tags behind texts.
-fn sift_section(s: &[u8], f: Field, tag: usize, n: usize) -> Sifted
-    requires entering { Entering tag n s.now f }
-    requires known_tag { tag ≤ highest_tag }
-    ensures { Sifts tag s.now result }
-{
-    let start = f.at;
-    let mut passed = 0;
-    let mut g = f;
-    while g.at < s.len() {
-        if g.tag != tag {
-            return Sifted {
-                fine: true,
-                records: Section {
-                    start,
-                    count: passed,
-                },
-                next: g,
-            };
+    match frame(s) {
+        Err(at) => refuse(RUNS_PAST, Some(at)),
+        Ok(bad) => {
+            refuse(BAD_TAG, bad)?;
+            refuse_fields(s)
         }
-        if runs_past(s, g) {
-            return Sifted {
-                fine: false,
-                records: Section {
-                    start,
-                    count: passed,
-                },
-                next: g,
-            };
-        }
-        if is_faulty(n, s, g) {
-            return Sifted {
-                fine: false,
-                records: Section {
-                    start,
-                    count: passed,
-                },
-                next: g,
-            };
-        }
-        passed += 1;
-        g = next_field(s, g);
-    }
-    Sifted {
-        fine: true,
-        records: Section {
-            start,
-            count: passed,
-        },
-        next: g,
-    }
-}
-
-// The same, with the offset of each field put into a table, up to the table's end.
-fn list_section(s: &[u8], f: Field, tag: usize, n: usize, table: &mut [usize]) -> Sifted
-    requires entering { Entering tag n s.now f }
-    requires known_tag { tag ≤ highest_tag }
-    ensures sifts { Sifts tag s.now result }
-    ensures table { TabledIfFine tag s.now result.fine table.new }
-{
-    let start = f.at;
-    let mut listed = 0;
-    let mut g = f;
-    while g.at < s.len() {
-        if g.tag != tag {
-            return Sifted {
-                fine: true,
-                records: Section {
-                    start,
-                    count: listed,
-                },
-                next: g,
-            };
-        }
-        if runs_past(s, g) {
-            return Sifted {
-                fine: false,
-                records: Section {
-                    start,
-                    count: listed,
-                },
-                next: g,
-            };
-        }
-        if is_faulty_list(n, s, g) {
-            return Sifted {
-                fine: false,
-                records: Section {
-                    start,
-                    count: listed,
-                },
-                next: g,
-            };
-        }
-        if table.len() <= listed {
-            return Sifted {
-                fine: false,
-                records: Section {
-                    start,
-                    count: listed,
-                },
-                next: g,
-            };
-        }
-        table[listed] = g.at;
-        listed += 1;
-        g = next_field(s, g);
-    }
-    Sifted {
-        fine: true,
-        records: Section {
-            start,
-            count: listed,
-        },
-        next: g,
-    }
-}
-
-// The section behind one that was passed; what is behind a fault isn't looked at.
-fn sift_on(s: &[u8], before: Sifted, tag: usize, n: usize) -> Sifted
-    requires ready_for { ReadyFor tag n s.now before }
-    requires behind_texts { (text_tag < tag) × (tag ≤ highest_tag) }
-    ensures follows { Follows tag s.now before result }
-    ensures ready { ReadyFor (tag + 1) n s.now result }
-{
-    if before.fine {
-        return sift_section(s, before.next, tag, n);
-    }
-    before
-}
-
-fn list_on(s: &[u8], before: Sifted, tag: usize, n: usize, table: &mut [usize]) -> Sifted
-    requires ready_for { ReadyFor tag n s.now before }
-    requires known_tag { tag ≤ highest_tag }
-    ensures follows { Follows tag s.now before result }
-    ensures table { TabledIfFine tag s.now result.fine table.new }
-{
-    if before.fine {
-        return list_section(s, before.next, tag, n, table);
-    }
-    before
-}
-
-// The sections whose records have a fixed size, with nothing at fault where fine.
-#[derive(Clone, Copy)]
-struct Rest {
-    pub fine: bool,
-    pub fixed: Fixed,
-}
-
-// Passes them, from the connectors on, where there are n texts.
-fn sift_fixed(s: &[u8], before: Sifted, n: usize) -> Rest
-    requires { ReadyFor connector_tag n s.now before }
-    ensures { Fixes s.now before result }
-{
-    let connectors = sift_on(s, before, CONNECTOR_TAG, n);
-    let connections = sift_on(s, connectors, CONNECTION_TAG, n);
-    let externals = sift_on(s, connections, EXTERNAL_INPUT_TAG, n);
-    let inputs = sift_on(s, externals, BOUNDARY_INPUT_TAG, n);
-    let outputs = sift_on(s, inputs, BOUNDARY_OUTPUT_TAG, n);
-    let next = outputs.next;
-    let fine = outputs.fine & (s.len() <= next.at);
-    let connectors = connectors.records;
-    let connections = connections.records;
-    let externals = externals.records;
-    let inputs = inputs.records;
-    let outputs = outputs.records;
-    let fixed = Fixed {
-        connectors,
-        connections,
-        externals,
-        inputs,
-        outputs,
-    };
-    Rest { fine, fixed }
-}
-
-// What one pass finds: the layout, where nothing is at fault.
-#[derive(Clone, Copy)]
-struct Surveyed {
-    pub fine: bool,
-    pub layout: Layout,
-}
-
-fn survey(s: &[u8], texts: &mut [usize], blocks: &mut [usize]) -> Surveyed
-    requires { length s.now ≤ longest_image }
-    ensures surveys { Surveys s.now result }
-    ensures texts { TabledIfFine text_tag s.now result.fine texts.new }
-    ensures blocks { TabledIfFine block_tag s.now result.fine blocks.new }
-{
-    let head = sift_head(s, first_field(s));
-    let texts = list_on(s, head, TEXT_TAG, 0, texts);
-    let listed = texts.records;
-    let n = listed.count;
-    let blocks = list_on(s, texts, BLOCK_TAG, n, blocks);
-    let rest = sift_fixed(s, blocks, n);
-    let fixed = rest.fixed;
-    let texts = texts.records;
-    let blocks = blocks.records;
-    let connectors = fixed.connectors;
-    let connections = fixed.connections;
-    let externals = fixed.externals;
-    let inputs = fixed.inputs;
-    let outputs = fixed.outputs;
-    let layout = Layout {
-        texts,
-        blocks,
-        connectors,
-        connections,
-        externals,
-        inputs,
-        outputs,
-        min: int_of_bits(at64(s, HEAD_MIN_AT)),
-        max: int_of_bits(at64(s, HEAD_MAX_AT)),
-    };
-    Surveyed {
-        fine: rest.fine,
-        layout,
     }
 }
 
 // ---- the whole
 
-// The answer for an image with whole fields and good tags, refusal by refusal.
-fn decide(s: &[u8], texts: &mut [usize], blocks: &mut [usize]) -> Acceptance
-    requires well_framed { WellFramed s.now }
-    requires text_room { most text_tag ≤ length texts.old }
-    requires block_room { most block_tag ≤ length blocks.old }
-    ensures answer { result ≡ acceptance s.now }
-    ensures texts { TabledIfAccepted text_tag s.now texts.new }
-    ensures blocks { TabledIfAccepted block_tag s.now blocks.new }
+// Refusal 1: an image is shorter or longer than one may be.
+fn bad_size(s: &[u8]) -> bool
+    ensures { result ≡ bad_size s.now }
 {
-    let verdict = refuse_fields(s);
-    match verdict {
-        Verdict::Away { number, at } => Acceptance::Refused { number, at },
-        Verdict::Fine => Acceptance::Accepted(lay_out(s, texts, blocks)),
-    }
-}
-
-// The answer for an image of a good length, refusal by refusal.
-fn try_refusals(s: &[u8], texts: &mut [usize], blocks: &mut [usize]) -> Acceptance
-    requires size { (shortest_image ≤ length s.now) × (length s.now ≤ longest_image) }
-    requires text_room { most text_tag ≤ length texts.old }
-    requires block_room { most block_tag ≤ length blocks.old }
-    ensures answer { result ≡ acceptance s.now }
-    ensures texts { TabledIfAccepted text_tag s.now texts.new }
-    ensures blocks { TabledIfAccepted block_tag s.now blocks.new }
-{
-    let framed = frame(s);
-    match framed {
-        Err(at) => Acceptance::Refused {
-            number: 2,
-            at: at as u32,
-        },
-        Ok(bad) => match bad {
-            Some(at) => Acceptance::Refused {
-                number: 3,
-                at: at as u32,
-            },
-            None => decide(s, texts, blocks),
-        },
-    }
+    !(SHORTEST_IMAGE..=LONGEST_IMAGE).contains(&s.len())
 }
 
 // Answers with the layout of an accepted image, and puts the offsets of its texts and blocks into the
@@ -535,21 +213,19 @@ pub fn accept(
     image: &[u8],
     texts: &mut [usize; MOST_TEXTS],
     blocks: &mut [usize; MOST_BLOCKS],
-) -> Acceptance
+) -> Result<Layout, Refusal>
     ensures answer { result ≡ acceptance image.now }
     ensures texts { TabledIfAccepted text_tag image.now texts.new }
     ensures blocks { TabledIfAccepted block_tag image.now blocks.new }
 {
-    if image.len() < SHORTEST_IMAGE {
-        return Acceptance::Refused { number: 1, at: 0 };
+    if bad_size(image) {
+        return Err(Refusal {
+            number: BAD_SIZE,
+            offset: 0,
+        });
     }
-    if LONGEST_IMAGE < image.len() {
-        return Acceptance::Refused { number: 1, at: 0 };
+    match survey(image, texts, blocks) {
+        Some(layout) => Ok(layout),
+        None => Err(refuse_image(image).unwrap_err()),
     }
-    let found = survey(image, texts, blocks);
-    if found.fine {
-        let layout = found.layout;
-        return Acceptance::Accepted(layout);
-    }
-    try_refusals(image, texts, blocks)
 }

@@ -1,14 +1,17 @@
 -- Numbers under bits that aren't set, taken together bit by bit.
-use Prim.Native.Nat.{ℕ, ◌+◌, ◌≤◌}
+use Prim.Native.Nat.{ℕ}
 use native.Mathlib.Decide.{ℕ_discrete}
 use native.Mathlib.Omega.{arith}
 use mathlib.Core.Path.{◌≡◌, refl, ◌∙◌}
 use mathlib.Core.Bool.{Bool, true, false, cond, not, ◌&&◌, ◌||◌}
-use lib.Bits.{bit_or, bit_and, or_zero_l, or_add_and, and_le_r}
+use lib.Bits.{bit_or, or_zero_l, or_add_and, and_le_r}
 use lib.Dec.{eqb}
-use borrow.Author.Tests.{eq-eqb, ne_eqb}
+use borrow.Author.Tests.{ne_eqb}
 use Rattle.numbers.specs.Bytes.{bit}
-use Rattle.image_contents.specs.Marks.{is_stray, stray_part}
+use Rattle.image_contents.specs.Marks.{stray_part}
+use Rattle.oce_model.specs.Attributes.{num}
+use Rattle.oce_model.specs.Refusals.{stray}
+use Rattle.oce_model.specs.declared.Attrs.{Attrs}
 
 -- two numbers together are 0 if each is
 or-nonzero : (a b : ℕ) → not (eqb (bit_or a b) 0) ≡ (not (eqb a 0) || not (eqb b 0))
@@ -23,17 +26,10 @@ or-nonzero a b = arm (ℕ_discrete a 0)
 pub strays-more : (x y : ℕ) {p q : Bool} → not (eqb x 0) ≡ p → not (eqb y 0) ≡ q → not (eqb (bit_or x y) 0) ≡ (p || q)
 strays-more x y e f = or-nonzero x y ∙ rw (e, f)
 
-pub strays-one : (m p x : ℕ) {y : ℕ} → y ≡ stray_part m p x → not (eqb y 0) ≡ is_stray m p x
-strays-one m p x e = rw e (arm (bit m p))
+pub strays-one : (a : Attrs) (p : ℕ) {y : ℕ} → y ≡ stray_part a p → not (eqb y 0) ≡ stray a p
+unfolding stray
+strays-one a p e = rw e (arm (bit a.marks p) (num a p))
   where
-    arm : (t : Bool) → not (eqb (cond t 0 x) 0) ≡ (not t && not (eqb x 0))
-    arm true = refl
-    arm false = refl
-
--- by the bit
-module _ (m p x : ℕ) {t : Bool} (e : t ≡ bit m p) where
-  pub stray-none : t ≡ true → 0 ≡ stray_part m p x
-  stray-none f = rw (← e, f)
-
-  pub stray-own : t ≡ false → x ≡ stray_part m p x
-  stray-own f = rw (← e, f)
+    arm : (t : Bool) (x : ℕ) → not (eqb (cond t 0 x) 0) ≡ (not t && not (eqb x 0))
+    arm true x = refl
+    arm false x = refl

@@ -7,57 +7,37 @@ ghost use Rattle.base.specs.Lists.{any};
 ghost use Rattle.numbers.specs.Bytes.{short_range};
 ghost use Rattle.oce_model.specs.Format.{block_length, port_length, most_ports, most, fixed_length, longest_image};
 ghost use Rattle.oce_model.specs.Texts.{is_text_byte};
-ghost use Rattle.oce_model.specs.Model.{input_count_at, output_count_at};
-ghost use Rattle.oce_model.specs.Refusals.{bad_tag, bad_block_length, bad_length, too_many, bad_text, fault};
+ghost use Rattle.oce_model.specs.Refusals.{bad_tag, bad_block_length, bad_length, too_many, bad_text};
 
 use base::part_of;
-use image_contents::{bad_contents, bad_reference};
-use numbers::{at16, wide};
+use numbers::at16;
 use oce_model::{
     BLOCK_INPUTS_AT, BLOCK_LENGTH, BLOCK_OUTPUTS_AT, BLOCK_TAG, BOUNDARY_INPUT_LENGTH,
-    BOUNDARY_OUTPUT_LENGTH, CONNECTION_LENGTH, CONNECTOR_LENGTH, EXTERNAL_INPUT_LENGTH,
+    BOUNDARY_INPUT_TAG, BOUNDARY_OUTPUT_LENGTH, BOUNDARY_OUTPUT_TAG, CONNECTION_LENGTH,
+    CONNECTION_TAG, CONNECTOR_LENGTH, CONNECTOR_TAG, EXTERNAL_INPUT_LENGTH, EXTERNAL_INPUT_TAG,
     FIRST_TEXT_BYTE, Field, HEAD_LENGTH, HEAD_TAG, HIGHEST_TAG, LAST_TEXT_BYTE, LEADING_BYTES,
     LONGEST_TEXT, MOST_BLOCKS, MOST_BOUNDARY_INPUTS, MOST_BOUNDARY_OUTPUTS, MOST_CONNECTIONS,
-    MOST_CONNECTORS, MOST_EXTERNAL_INPUTS, MOST_PORTS, MOST_TEXTS, PORT_LENGTH, TAG_COUNT,
-    TEXT_TAG,
+    MOST_CONNECTORS, MOST_EXTERNAL_INPUTS, MOST_PORTS, MOST_TEXTS, PORT_LENGTH, TEXT_TAG,
 };
 
 // ---- 3: tags
 
 // A tag that no field has, that falls, or a head where none may stand.
+#[tactic(auto, unfolding(oce_model::specs::Refusals::bad_tag, oce_model::specs::Refusals::tag_is_bad))]
 pub fn bad_tag(f: Field) -> bool
     ensures { result ≡ bad_tag f }
 {
-    if f.tag == 0 {
-        return true;
-    }
-    if HIGHEST_TAG < f.tag {
-        return true;
-    }
-    if f.tag < f.prev {
-        return true;
-    }
-    if f.prev == 0 {
-        return f.tag != HEAD_TAG;
-    }
-    f.tag == HEAD_TAG
+    f.tag == 0
+        || HIGHEST_TAG < f.tag
+        || f.tag < f.prev
+        || if f.prev == 0 {
+            f.tag != HEAD_TAG
+        } else {
+            f.tag == HEAD_TAG
+        }
 }
 
 // ---- 4: lengths
-
-fn input_count(s: &[u8], at: usize) -> usize
-    requires { at ≤ longest_image }
-    ensures { (result ≡ input_count_at s.now at) × (result < short_range) }
-{
-    at16(s, at + BLOCK_INPUTS_AT)
-}
-
-fn output_count(s: &[u8], at: usize) -> usize
-    requires { at ≤ longest_image }
-    ensures { (result ≡ output_count_at s.now at) × (result < short_range) }
-{
-    at16(s, at + BLOCK_OUTPUTS_AT)
-}
 
 // A block's length by its port counts, and those counts.
 pub fn bad_ports(len: usize, inputs: usize, outputs: usize) -> bool
@@ -69,75 +49,69 @@ pub fn bad_ports(len: usize, inputs: usize, outputs: usize) -> bool
         | (MOST_PORTS < outputs)
 }
 
+#[tactic(auto, unfolding(oce_model::specs::Refusals::bad_block_length))]
 fn bad_block_length(s: &[u8], f: Field) -> bool
     requires { f.at ≤ longest_image }
     ensures { result ≡ bad_block_length s.now f }
 {
-    let at = f.at;
-    let inputs = input_count(s, at);
-    let outputs = output_count(s, at);
-    bad_ports(f.len, inputs, outputs)
+    bad_ports(
+        f.len,
+        at16(s, f.at + BLOCK_INPUTS_AT),
+        at16(s, f.at + BLOCK_OUTPUTS_AT),
+    )
 }
 
 // The length of a tag's contents, where that is fixed.
+#[tactic(auto, unfolding(oce_model::specs::Format::fixed_length))]
 fn fixed_length(tag: usize) -> usize
     ensures { result ≡ fixed_length tag }
 {
-    let lengths: [usize; TAG_COUNT] = [
-        0,
-        HEAD_LENGTH,
-        0,
-        0,
-        CONNECTOR_LENGTH,
-        CONNECTION_LENGTH,
-        EXTERNAL_INPUT_LENGTH,
-        BOUNDARY_INPUT_LENGTH,
-        BOUNDARY_OUTPUT_LENGTH,
-    ];
-    if tag < TAG_COUNT {
-        return lengths[tag];
+    match tag {
+        HEAD_TAG => HEAD_LENGTH,
+        CONNECTOR_TAG => CONNECTOR_LENGTH,
+        CONNECTION_TAG => CONNECTION_LENGTH,
+        EXTERNAL_INPUT_TAG => EXTERNAL_INPUT_LENGTH,
+        BOUNDARY_INPUT_TAG => BOUNDARY_INPUT_LENGTH,
+        BOUNDARY_OUTPUT_TAG => BOUNDARY_OUTPUT_LENGTH,
+        _ => 0,
     }
-    0
 }
 
 // A field's length isn't its tag's.
+#[tactic(auto, unfolding(oce_model::specs::Refusals::bad_length))]
 pub fn bad_length(s: &[u8], f: Field) -> bool
     requires { f.at ≤ longest_image }
     ensures { result ≡ bad_length s.now f }
 {
-    if f.tag == TEXT_TAG {
-        return LONGEST_TEXT < f.len;
+    match f.tag {
+        TEXT_TAG => LONGEST_TEXT < f.len,
+        BLOCK_TAG => bad_block_length(s, f),
+        tag => f.len != fixed_length(tag),
     }
-    if f.tag == BLOCK_TAG {
-        return bad_block_length(s, f);
-    }
-    f.len != fixed_length(f.tag)
 }
 
 // ---- 5: how many
 
 // The most records of a tag.
+#[tactic(auto, unfolding(oce_model::specs::Format::most))]
 fn most_of(tag: usize) -> usize
     ensures { result ≡ most tag }
 {
-    let table: [usize; TAG_COUNT] = [
-        0,
-        1,
-        MOST_TEXTS,
-        MOST_BLOCKS,
-        MOST_CONNECTORS,
-        MOST_CONNECTIONS,
-        MOST_EXTERNAL_INPUTS,
-        MOST_BOUNDARY_INPUTS,
-        MOST_BOUNDARY_OUTPUTS,
-    ];
-    if tag < TAG_COUNT {
-        return table[tag];
+    match tag {
+        HEAD_TAG => 1,
+        TEXT_TAG => MOST_TEXTS,
+        BLOCK_TAG => MOST_BLOCKS,
+        CONNECTOR_TAG => MOST_CONNECTORS,
+        CONNECTION_TAG => MOST_CONNECTIONS,
+        EXTERNAL_INPUT_TAG => MOST_EXTERNAL_INPUTS,
+        BOUNDARY_INPUT_TAG => MOST_BOUNDARY_INPUTS,
+        BOUNDARY_OUTPUT_TAG => MOST_BOUNDARY_OUTPUTS,
+        _ => 0,
     }
-    0
 }
 
 // A field beyond the most that its tag may have.
+#[tactic(auto, unfolding(oce_model::specs::Refusals::too_many))]
 pub fn too_many(f: Field) -> bool
     ensures { result ≡ too_many f }
 {
@@ -146,63 +120,26 @@ pub fn too_many(f: Field) -> bool
 
 // ---- 7: texts
 
-fn is_text_byte(b: usize) -> bool
+// A byte that a text may hold.
+#[tactic(auto, unfolding(oce_model::specs::Texts::is_text_byte))]
+fn is_text_byte(b: u8) -> bool
     ensures { result ≡ is_text_byte b }
 {
-    if FIRST_TEXT_BYTE <= b {
-        return b <= LAST_TEXT_BYTE;
-    }
-    false
+    (FIRST_TEXT_BYTE..=LAST_TEXT_BYTE).contains(&usize::from(b))
 }
 
 // A byte that no text may hold is among these.
 pub fn has_bad_byte(bytes: &[u8]) -> bool
     ensures { result ≡ any (λ b. not (is_text_byte b)) bytes.now }
 {
-    let mut i = 0;
-    while i < bytes.len() {
-        if !is_text_byte(wide(bytes[i])) {
-            return true;
-        }
-        i += 1;
-    }
-    false
+    bytes.iter().any(|b| !is_text_byte(*b))
 }
 
 // A text holds a byte that no text may hold.
+#[tactic(auto, unfolding(oce_model::specs::Refusals::bad_text, oce_model::specs::Texts::text_of))]
 pub fn bad_text(s: &[u8], f: Field) -> bool
     requires { f.at ≤ longest_image }
     ensures { result ≡ bad_text s.now f }
 {
-    if f.tag != TEXT_TAG {
-        return false;
-    }
-    let at = f.at + LEADING_BYTES;
-    let len = f.len;
-    has_bad_byte(part_of(s, at, len))
-}
-
-// ---- all of them: the field is at fault under refusal k, for k from 3 to 8; n is the number of texts
-
-// A field is at fault under refusal k, in an image of n texts.
-pub fn is_at_fault(k: usize, n: usize, s: &[u8], f: Field) -> bool
-    requires { f.at ≤ longest_image }
-    ensures { result ≡ fault k n s.now f }
-{
-    if k == 3 {
-        return bad_tag(f);
-    }
-    if k == 4 {
-        return bad_length(s, f);
-    }
-    if k == 5 {
-        return too_many(f);
-    }
-    if k == 6 {
-        return bad_contents(s, f);
-    }
-    if k == 7 {
-        return bad_text(s, f);
-    }
-    bad_reference(n, s, f)
+    f.tag == TEXT_TAG && has_bad_byte(part_of(s, f.at + LEADING_BYTES, f.len))
 }

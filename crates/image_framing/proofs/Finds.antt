@@ -1,6 +1,5 @@
 -- Laws of what is left of the fields in a loop over all of them, of where they stop, and of what framing and a search for the first that passes a test have found.
 use Prim.Native.Nat.{ℕ, zero, suc, ◌<◌, ◌≤◌}
-use native.Mathlib.Omega.{arith}
 use mathlib.Core.Path.{◌≡◌, refl, sym, ap, ◌∙◌}
 use mathlib.Core.Bool.{Bool, true, false, cond}
 use mathlib.Core.List.{List, [], ◌∷◌, Memᴰ}
@@ -16,8 +15,7 @@ use Rattle.oce_model.specs.Refusals.{bad_tag}
 use Rattle.oce_model.specs.declared.Field.{Field}
 use Rattle.oce_model.proofs.Fields.{first-here, first-later}
 use Rattle.oce_model.proofs.Places.{field-end}
-use Rattle.image_framing.specs.Walk.{Ended, Walking, after, end_of, framed, start, stop_after}
-use Rattle.image_framing.proofs.Walks.{walk-fits, walk_start, walk_step}
+use Rattle.image_framing.specs.Walk.{Tests, end_of, framed, stop_after}
 
 -- ---- what is left
 
@@ -71,14 +69,6 @@ module _ {s : List ℕ} {rest : List Field} {end : ℕ} (v : Stopping s rest end
 
 -- ---- a search
 
-pub found_none : (o : Option ℕ) → None ≡ o → o ≡ None
-found_none None h = refl
-found_none (Some at) h = let z : ◌≡◌ {A = ℕ} 0 1 = cc in absurd (omega arith)
-
-pub found_some : (o : Option ℕ) (at : ℕ) → Some at ≡ o → o ≡ Some at
-found_some None at h = let z : ◌≡◌ {A = ℕ} 0 1 = cc in absurd (omega arith)
-found_some (Some x) at h = cc
-
 -- none of the fields passed passes the test p
 pub record Searching (p : Field → Bool) (s : List ℕ) (rest : List Field) : Type 0 where
   pub left : Left s rest
@@ -105,6 +95,33 @@ module _ {p : Field → Bool} {s : List ℕ} {rest : List Field} (v : Searching 
 
   pub searching-end : rest ≡ [] → None ≡ first p (fields s)
   searching-end e = sym (searching-none e)
+
+-- the same of any test that calls make
+pub record Hunting (answers : Field → Bool → Type 0) (s : List ℕ) (rest : List Field) : Type 0 where
+  pub left : Left s rest
+  pub same : (p : Field → Bool) → Tests answers s p → first p rest ≡ first p (fields s)
+
+module _ {answers : Field → Bool → Type 0} {s : List ℕ} {rest : List Field} where
+  pub hunting-start : rest ≡ fields s → Hunting answers s rest
+  hunting-start e = record { left = rw e (left-all s); same = λ p t. ap (first p) e }
+
+  module _ (v : Hunting answers s rest) where
+    search-of : (p : Field → Bool) → Tests answers s p → Searching p s rest
+    search-of p t = record { left = v.left; same = v.same p t }
+
+    module _ {f : Field} {later : List Field} (e : rest ≡ f ∷ later) where
+      pub hunting-fits : end_of f ≤ length s
+      hunting-fits = left-fits v.left e
+
+      module _ {b : Bool} (a : answers f b) where
+        pub hunting-next : b ≡ false → Hunting answers s later
+        hunting-next u = record { left = left-next v.left e; same = λ p t. (searching-next (search-of p t) e (t f b hunting-fits a) u).same }
+
+        pub hunting-found : b ≡ true → (p : Field → Bool) → Tests answers s p → Some f.at ≡ first p (fields s)
+        hunting-found u p t = searching-found (search-of p t) e (t f b hunting-fits a) u
+
+    pub hunting-end : rest ≡ [] → (p : Field → Bool) → Tests answers s p → None ≡ first p (fields s)
+    hunting-end e p t = searching-end (search-of p t) e
 
 -- ---- framing
 
@@ -152,21 +169,3 @@ module _ {s : List ℕ} {rest : List Field} {bad : Option ℕ} {end : ℕ} (v : 
     framing-whole h =
         let found : bad ≡ first bad_tag (fields s) = sym (none_more bad) ∙ ap (λ l. option_or bad (first bad_tag l)) (sym e) ∙ v.found in
         sym (rw (stopping-end v.stopping e, le-ltb end (length s) h, ← found) refl)
-
--- ---- the same search by `next_field`
-
--- none of those passed passes the test p
-pub record Seeking (p : Field → Bool) (s : List ℕ) (f : Field) : Type 0 where
-  pub rest : List Field
-  pub walk : Walking s f rest
-  pub same : first p (fields s) ≡ first p rest
-
-module _ {p : Field → Bool} {s : List ℕ} {f : Field} where
-  pub seeking-start : f ≡ start s → Seeking p s f
-  seeking-start e = record { rest = fields s; walk = walk_start e; same = refl }
-
-  module _ (v : Seeking p s f) where
-    pub seeking-turn : {b : Bool} {g : Field} → Ended s → f.at < length s → b ≡ p f → b ≡ false → g ≡ after s f → Seeking p s g
-    seeking-turn w h t u e =
-        let k = walk_step v.walk h (walk-fits v.walk w.ends h) e in
-        record { rest = k.later; walk = k.walk; same = v.same ∙ ap (first p) k.is ∙ first-later p f k.later (sym t ∙ u) }

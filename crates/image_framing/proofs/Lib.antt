@@ -1,5 +1,4 @@
 -- Laws of going through the fields of an image.
 pub mod Leads
 pub mod Rests
-pub mod Walks
 pub mod Finds

@@ -3,7 +3,7 @@ ghost use Rattle.std.specs.Prelude.{◌≡◌, ◌≤◌};
 ghost use Rattle.std.specs.Iterator.{YieldsFirst, item_count};
 ghost use Rattle.oce_model.specs.Image.{fields};
 
-use crate::{end_of, ord_of, whole_at};
+use crate::{end_of, field_of, whole_at};
 use oce_model::Field;
 use std::marker::Model;
 
@@ -52,13 +52,7 @@ impl Iterator for Fields<'_> {
 
     fn next(&mut self) -> Option<Field> {
         let l = whole_at(self.bytes, self.at)?;
-        let f = Field {
-            at: self.at,
-            tag: l.tag,
-            len: l.len,
-            prev: self.prev,
-            ord: ord_of(self.prev, self.n, l.tag),
-        };
+        let f = field_of(l, self.at, self.prev, self.n);
         self.at = end_of(f);
         self.prev = f.tag;
         self.n = f.ord + 1;

@@ -2,21 +2,21 @@
 // fault under a refusal.
 #![tactic(auto)]
 
-ghost use Rattle.std.specs.Prelude.{◌≡◌, ◌+◌, ◌<◌, ◌≤◌, ltb, length, IfSome};
+ghost use Rattle.std.specs.Prelude.{◌≡◌, ◌+◌, ◌<◌, ◌≤◌, ltb, length, IfSome, Bool};
 ghost use Rattle.numbers.specs.Bytes.{byte_range, short_range, long_range};
-ghost use Rattle.oce_model.specs.Format.{leading_bytes, longest_image};
+ghost use Rattle.oce_model.specs.Format.{leading_bytes};
 ghost use Rattle.oce_model.specs.Image.{ord_of, fields, first};
-ghost use Rattle.oce_model.specs.Refusals.{fault};
-ghost use Rattle.image_framing.specs.Walk.{leading_at, whole_at, placed, start, after, end_of, framed};
+ghost use Rattle.oce_model.specs.declared.Field.{Field};
+ghost use Rattle.image_framing.specs.Walk.{leading_at, whole_at, field_of, end_of, Tests, framed};
 
 mod fields;
 
 pub use fields::Fields;
-use image_faults::{bad_tag, is_at_fault};
-use numbers::{at16, read16, wide};
+use image_faults::bad_tag;
+use numbers::{at16, read16};
 use oce_model::{FIELD_LENGTH_AT, Field, LEADING_BYTES};
 
-// ---- one field and the next
+// ---- one field
 
 // How many fields with the tag t stand right before a field of that tag, where n fields with the tag
 // prev do.
@@ -40,7 +40,7 @@ pub fn leading_at(s: &[u8], at: usize) -> Leading
     if s.len() <= at {
         return Leading { tag: 0, len: 0 };
     }
-    let tag = wide(s[at]);
+    let tag = usize::from(s[at]);
     let len = if LEADING_BYTES <= s.len() - at {
         read16(s, at + FIELD_LENGTH_AT)
     } else {
@@ -62,12 +62,10 @@ pub fn whole_at(s: &[u8], at: usize) -> Option<Leading>
     }
 }
 
-// The field at an offset, behind n fields with the tag prev.
-#[tactic(auto, unfolding(crate::specs::Walk::placed, oce_model::specs::Image::field_at))]
-fn field_at(s: &[u8], at: usize, prev: usize, n: usize) -> Field
-    ensures { (result ≡ placed s.now at prev n) × (result.len < short_range) }
+// The field at an offset where these leading bytes stand, behind n fields with the tag prev.
+fn field_of(l: Leading, at: usize, prev: usize, n: usize) -> Field
+    ensures { result ≡ field_of l at prev n }
 {
-    let l = leading_at(s, at);
     Field {
         at,
         tag: l.tag,
@@ -85,32 +83,7 @@ pub fn end_of(f: Field) -> usize
     f.at + LEADING_BYTES + f.len
 }
 
-// The field at the start.
-#[tactic(auto, unfolding(crate::specs::Walk::start))]
-pub fn first_field(s: &[u8]) -> Field
-    ensures { (result ≡ start s.now) × (result.len < short_range) }
-{
-    field_at(s, 0, 0, 0)
-}
-
-// The field behind f.
-#[tactic(auto, unfolding(crate::specs::Walk::after))]
-pub fn next_field(s: &[u8], f: Field) -> Field
-    requires { (end_of f ≤ length s.now) × (f.ord ≤ f.at) }
-    ensures { (result ≡ after s.now f) × (result.len < short_range) }
-{
-    field_at(s, end_of(f), f.tag, f.ord + 1)
-}
-
 // ---- framing
-
-// Refusal 2: the field's leading bytes or its contents run past the image's end.
-pub fn runs_past(s: &[u8], f: Field) -> bool
-    requires { (f.at ≤ length s.now) × (f.len < short_range) }
-    ensures { result ≡ ltb (length s.now) (end_of f) }
-{
-    s.len() < end_of(f)
-}
 
 // Goes through the fields once, for refusals 2 and 3: the offset of the field that runs past the image's end, or
 // else of the first field with a bad tag, if there is one.
@@ -126,15 +99,16 @@ pub fn frame(s: &[u8]) -> Result<Option<usize>, usize>
     if end < s.len() { Err(end) } else { Ok(bad) }
 }
 
-// ---- refusals 4 to 8
+// ---- the first field
 
-// The offset of the first field that is at fault under refusal k, where there are n texts.
-pub fn first_fault(k: usize, n: usize, s: &[u8]) -> Option<usize>
-    requires { length s.now ≤ longest_image }
-    ensures { result ≡ (first (fault k n s.now) (fields s.now)) }
+// The offset of the first field that passes a test.
+pub fn first_fault<F: Fn(Field) -> bool>(s: &[u8], test: F) -> Option<usize>
+    requires { (f : Field) → end_of f ≤ length s.now → F.pre test f }
+    ensures first { (p : Field → Bool) → Tests (F.post test) s.now p → result ≡ first p (fields s.now) }
+    ensures inside { IfSome result (λ at. at < length s.now) }
 {
     for f in Fields::of(s) {
-        if is_at_fault(k, n, s, f) {
+        if test(f) {
             return Some(f.at);
         }
     }

@@ -2,13 +2,13 @@
 use Prim.Native.Nat.{ℕ, ◌+◌, ◌*◌, ◌<◌, ◌≤◌}
 use mathlib.Core.Path.{◌≡◌, refl, sym}
 use mathlib.Core.List.{List}
-use Rattle.std.specs.Prelude.{Option, Some, None}
+use Rattle.std.specs.Prelude.{Option, Some, None, Err}
 use lib.ListN.{length, get_or}
 use Rattle.oce_model.specs.Format.{block_tag, most_blocks, most_connectors, most_connections, most_external_inputs, most_boundary_inputs, most_boundary_outputs}
 use Rattle.oce_model.specs.Model.{model_of, block_count, connector_count, connection_count, boundary_input_count, boundary_output_count, ids_at, block, block_at}
-use Rattle.oce_model.specs.Refusals.{Refusal, refusal}
+use Rattle.oce_model.specs.Refusals.{refusal}
+use Rattle.oce_model.specs.declared.Refusal.{Refusal}
 use Rattle.image_accept.specs.Layout.{Laid, Tabled, accepts, acceptance}
-use Rattle.image_accept.specs.declared.Acceptance.TheVariants.{Refused}
 use Rattle.image_accept.specs.declared.Layout.{Layout}
 use Rattle.numbers.specs.Bytes.{le16, le32}
 use Rattle.image_records.specs.Images.{block_value, BlockInside}
@@ -71,13 +71,10 @@ block-whole s at p q r w = rw (p, q, r, w) refl
 
 -- ---- what accepting says
 
-refused-as : (s : List ℕ) (o : Option Refusal) (n at : ℕ) → Refused n at ≡ accepts s o → o ≡ Some (record { number = n; offset = at })
-refused-as s None n at e = absurd (cc)
-refused-as s (Some r) n at e =
-    let p : r.number ≡ n = cc in
-    let q : r.offset ≡ at = cc in
-    rw (← p, ← q) refl
-
-pub is-refused : (s : List ℕ) {n at : ℕ} → Refused n at ≡ acceptance s → refusal s ≡ Some (record { number = n; offset = at })
+pub is-refused : (s : List ℕ) {r : Refusal} → Err r ≡ acceptance s → refusal s ≡ Some r
 unfolding acceptance
-is-refused s {n} {at} e = refused-as s (refusal s) n at e
+is-refused s {r} e = arm (refusal s) e
+  where
+    arm : (o : Option Refusal) → Err r ≡ accepts s o → o ≡ Some r
+    arm None q = absurd (cc)
+    arm (Some x) q = cc

@@ -4,22 +4,24 @@ use native.Mathlib.Nat.{le_refl}
 use native.Mathlib.Omega.{arith}
 use mathlib.Core.Path.{◌≡◌, refl, sym, ap, ◌∙◌}
 use mathlib.Core.Logic.{◌≢◌}
-use mathlib.Core.Bool.{false, not, ◌||◌}
+use mathlib.Core.Bool.{false, cond, not, ◌||◌}
 use mathlib.Core.List.{List}
 use lib.ListN.{length, get_or, drop, length-map, length-append, get_or-append}
 use lib.Dec.{eqb, ltb}
 use borrow.Author.Tests.{eqb-true, ltb-false, not-false}
 use Rattle.base.specs.Buffers.{starts_with}
-use Rattle.base.proofs.Lists.{length-tab, get_or-tab, or_parts}
+use Rattle.base.proofs.Lists.{get_or-tab, or_parts}
 use Rattle.base.proofs.Members.{get_or-map}
 use Rattle.numbers.specs.Bytes.{byte, le16, le32}
-use Rattle.oce_model.specs.Format.{leading_bytes, longest_image, block_ports, port_length, most_ports, block_length, text_tag, block_tag, fixed_length, most, most_blocks, most_connectors, most_connections, most_external_inputs, most_boundary_inputs, most_boundary_outputs, connector_tag, connection_tag, external_input_tag, boundary_input_tag, boundary_output_tag, connector_size, connection_size, external_input_size, boundary_input_size, boundary_output_size, connector_attrs, boundary_input_attrs, boundary_output_attrs, attrs_length}
+use Rattle.oce_model.specs.Format.{leading_bytes, longest_image, block_ports, port_length, most_ports, block_length, text_tag, block_tag, fixed_length, most, most_blocks, most_connectors, most_connections, most_external_inputs, most_boundary_inputs, most_boundary_outputs, connector_tag, connection_tag, external_input_tag, boundary_input_tag, boundary_output_tag, connector_size, connection_size, external_input_size, boundary_input_size, boundary_output_size, connector_attrs, boundary_input_attrs, boundary_output_attrs, attrs_length, dir_in}
 use Rattle.oce_model.specs.Attributes.{attrs_at}
 use Rattle.oce_model.specs.Image.{field_at, fields, of_tag, start_of}
 use Rattle.oce_model.specs.declared.Field.{Field}
-use Rattle.oce_model.specs.Model.{model_of, ids_at, input_count_at, output_count_at, no_block, block, block_at, connector, connector_at, connection, connection_at, external_input_at, boundary_input, boundary_input_at, boundary_output, boundary_output_at, block_count, connector_count, connection_count, boundary_input_count, boundary_output_count}
+use Rattle.oce_model.specs.Model.{dir_of, model_of, ids_at, input_count_at, output_count_at, no_block, block, block_at, connector, connector_at, connection, connection_at, external_input_at, boundary_input, boundary_input_at, boundary_output, boundary_output_at, block_count, connector_count, connection_count, boundary_input_count, boundary_output_count}
 use Rattle.oce_model.specs.Refusals.{bad_length, bad_block_length}
 use Rattle.oce_model.specs.declared.ConnectorFront.{ConnectorFront}
+use Rattle.oce_model.specs.declared.Dir.{Dir}
+use Rattle.oce_model.specs.declared.Dir.TheVariants.{In, Out}
 use Rattle.oce_model.proofs.Accepted.{Accepted, accepted, fixed-length, connectors-length, connections-length, inputs-length, outputs-length}
 use Rattle.oce_model.proofs.Fields.{none-mem, nth, nth-mem, nth-tag}
 use Rattle.oce_model.proofs.Places.{field-end}
@@ -27,7 +29,7 @@ use Rattle.oce_model.proofs.Records.{nth-at, connector-at, connection-at, extern
 use Rattle.image_accept.specs.Layout.{Laid, Tabled, section_of, layout_of, offsets_of}
 use Rattle.image_accept.specs.declared.Layout.{Layout}
 use Rattle.image_accept.proofs.Rooms.{accepted-room}
-use Rattle.image_records.specs.Records.{block_read, connector_read, connection_read, output_read}
+use Rattle.image_records.specs.Records.{connector_read, connection_read, output_read}
 
 -- a record of a kind of fixed length stands inside the image
 placed : (s : List ℕ) → Accepted s → (t z i : ℕ) → t ≢ text_tag → t ≢ block_tag → leading_bytes + fixed_length t ≡ z → i < length (of_tag t (fields s)) → start_of t s + z * i ≤ longest_image
@@ -48,16 +50,10 @@ inside s acc t z i n o e k =
     omega arith
 
 -- a connector from its parts
-pub connector-parts : (s : List ℕ) (at : ℕ) {i b d k c t : ℕ} → i ≡ le32 s (at + 3) → b ≡ le32 s (at + 7) → d ≡ byte s (at + 11) → k ≡ byte s (at + 12) → c ≡ le32 s (at + 13) → t ≡ le16 s (at + 17)
+pub connector-parts : (s : List ℕ) (at : ℕ) {i b n k c t : ℕ} {d : Dir} → i ≡ le32 s (at + 3) → b ≡ le32 s (at + 7) → n ≡ byte s (at + 11) → d ≡ cond (eqb n dir_in) In Out → k ≡ byte s (at + 12) → c ≡ le32 s (at + 13) → t ≡ le16 s (at + 17)
     → record { id = record { 0 = i }; block = record { 0 = b }; dir = d; value_type = k; class = c; iri = t } ≡ connector_read (connector_at s at)
-unfolding connector_at connector_read
-connector-parts s at e₁ e₂ e₃ e₄ e₅ e₆ = rw (e₁, e₂, e₃, e₄, e₅, e₆)
-
--- a block from its parts; its ports are counted
-pub block-parts : (s : List ℕ) (at : ℕ) {i t n o : ℕ} → i ≡ le32 s (at + 3) → t ≡ le16 s (at + 7) → n ≡ le16 s (at + 9) → o ≡ le16 s (at + 11)
-    → record { id = record { 0 = i }; instance = t; inputs = n; outputs = o } ≡ block_read (block_at s at)
-unfolding block_at block_read ids_at
-block-parts s at e₁ e₂ e₃ e₄ = rw (e₁, e₂, e₃, e₄, length-tab _ _, length-tab _ _)
+unfolding connector_at connector_read dir_of
+connector-parts s at e₁ e₂ e₃ e₄ e₅ e₆ e₇ = rw (e₁, e₂, e₄, e₃, e₅, e₆, e₇) refl
 
 -- port j of n ids
 pub port-is : (s : List ℕ) (ids n j : ℕ) → j < n → get_or (ids_at s ids n) j 0 ≡ le32 s (ids + port_length * j)

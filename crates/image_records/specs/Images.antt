@@ -1,20 +1,16 @@
 -- What an image is accepted as. FORMAT 6.
 use Rattle.std.specs.Prelude.{ℕ, ◌+◌, ◌*◌, ◌≤◌, ◌≡◌, List, length, Result, Ok, Err}
 use Rattle.std.specs.Prelude.{Some, None}
-use Rattle.oce_model.specs.Refusals.{Refusal as Refused, refusal}
+use Rattle.oce_model.specs.Refusals.{refusal}
+use Rattle.oce_model.specs.declared.Refusal.{Refusal}
 use Rattle.oce_model.specs.Format.{longest_image, most_ports, block_ports, port_length}
 use Rattle.oce_model.specs.Model.{Block as ModelBlock, input_count_at, output_count_at}
 use Rattle.image_records.specs.declared.blocks.Block.{Block}
-use Rattle.image_records.specs.declared.image.Refusal.{Refusal}
-
--- a refusal's number and offset
-abbrev pub as_refused : Refusal → Refused
-as_refused r = record { number = r.number; offset = r.at }
 
 -- an image of the bytes s, of which no refusal applies; or the first that does
 abbrev pub Accepts : List ℕ → Result (List ℕ) Refusal → Type 0
 Accepts s (Ok image) = (image ≡ s) × (refusal s ≡ None)
-Accepts s (Err r) = refusal s ≡ Some (as_refused r)
+Accepts s (Err r) = refusal s ≡ Some r
 
 -- a block by value
 unfoldable pub block_value : ModelBlock → Block

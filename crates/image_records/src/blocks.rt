@@ -1,12 +1,11 @@
 // A block of an accepted image, with the ids of its ports.
 
 ghost use Rattle.std.specs.Prelude.{◌≡◌, ◌<◌, ◌≤◌, length, get_or};
-ghost use Rattle.numbers.specs.Bytes.{short_range, word_range};
 ghost use Rattle.oce_model.specs.Format.{most_ports};
 ghost use Rattle.oce_model.specs.Model.{block_at};
 ghost use Rattle.image_records.specs.Images.{block_value, BlockInside};
 
-use numbers::{read16, read32};
+use numbers::LittleEndian;
 use oce_model::{
     BLOCK_ID_AT, BLOCK_INPUTS_AT, BLOCK_INSTANCE_AT, BLOCK_OUTPUTS_AT, BLOCK_PORTS, BlockId,
     PORT_LENGTH,
@@ -41,11 +40,11 @@ impl Ids<'_> {
     }
 
     // The id of port j.
-    pub fn id(&self, j: usize) -> usize
+    pub fn id(&self, j: usize) -> u32
         requires { j < length self.now }
-        ensures { (result ≡ get_or self.now j 0) × (result < word_range) }
+        ensures { result ≡ get_or self.now j 0 }
     {
-        read32(self.bytes, self.at + PORT_LENGTH * j)
+        u32::read(self.bytes, self.at + PORT_LENGTH * j)
     }
 }
 
@@ -53,7 +52,7 @@ impl Ids<'_> {
 #[derive(Drop)]
 pub struct Block<'a> {
     pub id: BlockId,
-    pub instance: usize,
+    pub instance: u16,
     pub inputs: Ids<'a>,
     pub outputs: Ids<'a>,
 }
@@ -61,13 +60,13 @@ pub struct Block<'a> {
 // The block whose field stands at an offset.
 pub(crate) fn block_at(bytes: &[u8], at: usize) -> Block<'_>
     requires { BlockInside bytes.now at }
-    ensures { (result ≡ block_value (block_at bytes.now at)) × (result.instance < short_range) }
+    ensures { result ≡ block_value (block_at bytes.now at) }
 {
-    let inputs = read16(bytes, at + BLOCK_INPUTS_AT);
-    let outputs = read16(bytes, at + BLOCK_OUTPUTS_AT);
+    let inputs = usize::from(u16::read(bytes, at + BLOCK_INPUTS_AT));
+    let outputs = usize::from(u16::read(bytes, at + BLOCK_OUTPUTS_AT));
     Block {
-        id: BlockId(read32(bytes, at + BLOCK_ID_AT) as u32),
-        instance: read16(bytes, at + BLOCK_INSTANCE_AT),
+        id: BlockId(u32::read(bytes, at + BLOCK_ID_AT)),
+        instance: u16::read(bytes, at + BLOCK_INSTANCE_AT),
         inputs: Ids {
             bytes,
             at: at + BLOCK_PORTS,

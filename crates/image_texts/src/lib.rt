@@ -11,81 +11,46 @@ ghost use Rattle.image_texts.specs.Passed.{Passed};
 
 use base::part_of;
 use image_accept::Layout;
-use numbers::{at16, read64};
+use numbers::{LittleEndian, at16};
 use oce_model::{FIELD_LENGTH_AT, LEADING_BYTES};
 use std::cmp::Ordering;
 
 // ---- byte strings
-
-fn shorter(a: usize, b: usize) -> usize
-    ensures within { (result ≤ a) × (result ≤ b) }
-    ensures exact { result < a → result ≡ b }
-{
-    if a < b {
-        return a;
-    }
-    b
-}
 
 // Whether the eight bytes of a and of b from i on are the same.
 fn eight_same(a: &[u8], b: &[u8], i: usize) -> bool
     requires { (i + 8 ≤ length a.now) × (i + 8 ≤ length b.now) }
     ensures { result ≡ true → order (drop i a.now) (drop i b.now) ≡ order (drop (i + 8) a.now) (drop (i + 8) b.now) }
 {
-    read64(a, i) == read64(b, i)
+    u64::read(a, i) == u64::read(b, i)
 }
 
-// Passes over equal bytes, eight at a time, within the first n.
-fn skip_eights(a: &[u8], b: &[u8], n: usize) -> usize
-    requires { (n ≤ length a.now) × (n ≤ length b.now) }
-    ensures { Passed a.now b.now result × (result ≤ n) }
+// Passes over equal bytes, eight at a time: how many of the first bytes are passed.
+fn skip_eights(a: &[u8], b: &[u8]) -> usize
+    ensures { Passed a.now b.now result }
 {
-    let mut i = 0;
-    while 8 <= n - i {
-        if !eight_same(a, b, i) {
-            return i;
+    let eights = a.len().min(b.len()) / 8;
+    for k in 0..eights {
+        if !eight_same(a, b, 8 * k) {
+            return 8 * k;
         }
-        i += 8;
     }
-    i
+    8 * eights
 }
 
 // How a stands to b.
 pub fn order_of(a: &[u8], b: &[u8]) -> Ordering
     ensures { result ≡ order a.now b.now }
 {
-    let n = shorter(a.len(), b.len());
-    let mut i = skip_eights(a, b, n);
-    while i < n {
-        if a[i] < b[i] {
-            return Ordering::Less;
-        }
-        if b[i] < a[i] {
-            return Ordering::Greater;
-        }
-        i += 1;
-    }
-    if i < a.len() {
-        return Ordering::Greater;
-    }
-    if i < b.len() {
-        return Ordering::Less;
-    }
-    Ordering::Equal
+    let i = skip_eights(a, b);
+    a[i..].cmp(&b[i..])
 }
 
 // Strings of two lengths differ; others are compared by their bytes.
 pub fn same_bytes(a: &[u8], b: &[u8]) -> bool
     ensures { result ≡ same a.now b.now }
 {
-    if a.len() != b.len() {
-        return false;
-    }
-    match order_of(a, b) {
-        Ordering::Less => false,
-        Ordering::Equal => true,
-        Ordering::Greater => false,
-    }
+    a.len() == b.len() && order_of(a, b).is_eq()
 }
 
 // ---- texts by number; texts is the table that `accept` filled
@@ -110,42 +75,4 @@ pub fn text_of<'a>(image: &'a [u8], layout: Layout, texts: &[usize], i: usize) -
     }
     let at = text_offset(image, layout, texts, i);
     part_of(image, at + LEADING_BYTES, at16(image, at + FIELD_LENGTH_AT))
-}
-
-// Two texts, by their numbers, have the same bytes.
-pub fn same_text<'a>(
-    image: &'a [u8],
-    layout: Layout,
-    texts: &'a [usize],
-    i: usize,
-    j: usize,
-) -> bool
-    requires { Laid image.now layout × Tabled text_tag image.now texts.now }
-    ensures { result ≡ same (text (model_of image.now) i) (text (model_of image.now) j) }
-{
-    if i == j {
-        return true;
-    }
-    let a = text_of(image, layout, texts, i);
-    let b = text_of(image, layout, texts, j);
-    same_bytes(a, b)
-}
-
-// How text i stands to text j.
-pub fn text_order<'a>(
-    image: &'a [u8],
-    layout: Layout,
-    texts: &'a [usize],
-    i: usize,
-    j: usize,
-) -> Ordering
-    requires { Laid image.now layout × Tabled text_tag image.now texts.now }
-    ensures { result ≡ order (text (model_of image.now) i) (text (model_of image.now) j) }
-{
-    if i == j {
-        return Ordering::Equal;
-    }
-    let a = text_of(image, layout, texts, i);
-    let b = text_of(image, layout, texts, j);
-    order_of(a, b)
 }

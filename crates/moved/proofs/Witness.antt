@@ -28,7 +28,8 @@ use Rattle.crossed_bounds.specs.Values.{Datum, real, integer, boolean, string, e
 use Rattle.crossed_bounds.specs.declared.Bounds.TheVariants.{Integer}
 use Rattle.outcome.specs.Filled.{filled_of}
 use Rattle.outcome.specs.Answer.{report_of, answer, filled_after, report_after}
-use Rattle.outcome.specs.declared.Answer.TheVariants.{Checked}
+use Rattle.std.specs.Prelude.{Ok}
+use Rattle.oce_diag.specs.declared.Counted.{Counted}
 use Rattle.moved.specs.Moved.{OfTypes, Left, Wired, arrivals, delivered, alike_units}
 use Rattle.moved.specs.Witness.{witness_image, witness_filled, kelvin_again, season, unlike, computed_witness}
 use Rattle.moved.specs.Computed.{computed}
@@ -52,12 +53,15 @@ of_types m h i l = eqb-true _ _ (all-get_or (λ (c : Connector). eqb c.attrs.kin
 
 -- ---- the model that meets the premises
 
+abbrev nothing_counted : Counted
+nothing_counted = record { errors = 0; warnings = 0 }
+
 -- by computation: the premises, the answer, the report and the filled image; then which values arrive, in turn at In 1, 2, 4, 6 and 7, and which are delivered to the
 -- boundary outputs
 pub record Computes : Type 0 where
   pub bytes : all (λ b. ltb b byte_range) witness_image ≡ true
   pub kinds : all (λ (c : Connector). eqb c.attrs.kind c.value_type) (model_of witness_image).connectors ≡ true
-  pub answered : answer witness_image (length witness_image) 0 ≡ Checked 0 0
+  pub answered : answer witness_image (length witness_image) 0 ≡ Ok nothing_counted
   pub report : report_of witness_image ≡ []
   pub filled : filled_of witness_image ≡ witness_filled
   pub front : take (length witness_image) witness_filled ≡ witness_filled
@@ -92,7 +96,7 @@ witness-report = let c = witness-computes in rw (c.answered, c.report)
 pub witness-left : Left witness_image 0 0 witness_filled []
 witness-left =
     let c = witness-computes in
-    (moved witness_image witness_image [] (Checked 0 0) witness_filled [] (all-bytes witness_image c.bytes) (sym c.answered) (sym witness-filled) (sym witness-report)).left 0 0 refl
+    (moved witness_image witness_image [] (Ok nothing_counted) witness_filled [] (all-bytes witness_image c.bytes) (sym c.answered) (sym witness-filled) (sym witness-report)).left nothing_counted refl
 
 pub witness-wired : Wired (model_of witness_image) (model_of witness_filled)
 witness-wired = rw witness-computes.front at (witness-left.wired refl (of_types (model_of witness_image) witness-computes.kinds))

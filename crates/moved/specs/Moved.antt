@@ -16,7 +16,7 @@
 --
 -- `Moved`, at the end of this file, is the demand, and what `check` promises; `Left` has parts 1 and 2, `Wired` parts 3 to 7.
 use Rattle.std.specs.Prelude.{ℕ, ◌<◌, ◌≡◌, Bool, true, false, cond, not, ◌&&◌, ◌||◌, List, [], ◌∷◌, length, take}
-use Rattle.std.specs.Prelude.{Option, Some, None}
+use Rattle.std.specs.Prelude.{Option, Some, None, Ok}
 use Rattle.base.specs.Lists.{each, only, below, same}
 use Rattle.numbers.specs.Bytes.{bit}
 use Rattle.oce_model.specs.Format.{quantity_bit, unit_bit, unbounded_bit, unbounded_value_bit, real_kind, min_bit, max_bit}
@@ -26,13 +26,12 @@ use Rattle.oce_model.specs.Model.{Connector, BoundaryOutput, Model, model_of, te
 use Rattle.oce_model.specs.Refusals.{refusal}
 use Rattle.oce_diag.specs.Diagnostics.{errors, warnings}
 use Rattle.oce_diag.specs.Encoding.{report_bytes}
+use Rattle.oce_diag.specs.declared.Counted.{Counted}
 use Rattle.structural.specs.Degrees.{leads_to}
 use Rattle.crossed_bounds.specs.Ranges.{range_of, finite_end}
 use Rattle.outcome.specs.Filled.{filled_of}
-use Rattle.outcome.specs.Answer.{report_of}
+use Rattle.outcome.specs.Answer.{Answer, report_of}
 use Rattle.crossed_bounds.specs.Values.{Datum, of_kind, of_type, inside}
-use Rattle.outcome.specs.declared.Answer.{Answer}
-use Rattle.outcome.specs.declared.Answer.TheVariants.{Checked}
 
 -- ---- how values move
 
@@ -166,4 +165,4 @@ pub record Left (s : List ℕ) (e w : ℕ) (f r : List ℕ) : Type 0 where
 
 -- s is the image, a the answer, f and r are the two buffers after the call
 pub record Moved (s : List ℕ) (a : Answer) (f r : List ℕ) : Type 0 where
-  pub left : (e w : ℕ) → a ≡ Checked e w → Left s e w f r
+  pub left : (c : Counted) → a ≡ Ok c → Left s c.errors c.warnings f r

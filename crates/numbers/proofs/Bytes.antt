@@ -5,10 +5,9 @@ use native.Mathlib.Numerals.{add-one}
 use native.Mathlib.Omega.{arith}
 use mathlib.Core.Path.{◌≡◌, refl, sym, ap, ◌∙◌}
 use mathlib.Core.List.{List, [], ◌∷◌, ◌++◌}
-use lib.ListN.{length, get_or, take, drop, replicate, length-take, length-drop, length-replicate, get_or-replicate, get_or-eq_default}
+use lib.ListN.{length, take, drop, replicate, length-take, length-drop, length-replicate, get_or-replicate, get_or-eq_default}
 use lib.Seq.{get_or-append-add, get_or-take, get_or-drop, drop-cons}
 use native.Mathlib.Decide.{dec_lt}
-use Rattle.std.specs.Int.{w32, to_le_bytes}
 use Rattle.base.specs.Buffers.{patch}
 use Rattle.base.proofs.Buffers.{patch-inside, patch-after}
 use Rattle.numbers.specs.Bytes.{byte, le_at, le_bytes}
@@ -117,8 +116,3 @@ pub le-past : (w : ℕ) (s : List ℕ) (at : ℕ) → length s ≤ at → 0 ≡ 
 unfolding le_at
 le-past zero s at h = refl
 le-past (suc w) s at h = rw (← (byte_past s at h), ← (le-past w s (at + 1) (omega arith)))
-
--- the bytes that std gives of a number of 32 bits, one by one
-pub four-bytes : (n : ℕ) {bs : List ℕ} → bs ≡ to_le_bytes w32 n → get_or bs 0 0 ∷ get_or bs 1 0 ∷ get_or bs 2 0 ∷ get_or bs 3 0 ∷ [] ≡ le_bytes 4 n
-unfolding le_bytes
-four-bytes n e = rw (e, div-div-eq-div-mul n 256 256, div-div-eq-div-mul n 65536 256) refl

@@ -208,13 +208,6 @@ pub fn is_finite(x: f64) -> bool
 
 // ---- by width
 
-// A byte as a number.
-pub fn wide(x: u8) -> usize
-    ensures { (result ≡ x) × (result < byte_range) }
-{
-    usize::from(x)
-}
-
 // The byte at an index.
 pub fn read8(s: &[u8], at: usize) -> usize
     requires { at < length s.now }
@@ -239,14 +232,6 @@ pub fn read32(s: &[u8], at: usize) -> usize
     u32::read(s, at) as usize
 }
 
-// Of eight.
-pub fn read64(s: &[u8], at: usize) -> u64
-    requires { at + 8 ≤ length s.now }
-    ensures { result ≡ le64 s.now at }
-{
-    u64::read(s, at)
-}
-
 // The byte at any index.
 pub fn byte_at(s: &[u8], at: usize) -> usize
     ensures { (result ≡ byte s.now at) × (result < byte_range) }
@@ -266,35 +251,4 @@ pub fn at32(s: &[u8], at: usize) -> usize
     ensures { (result ≡ le32 s.now at) × (result < word_range) }
 {
     u32::read_padded(s, at) as usize
-}
-
-// Of eight.
-pub fn at64(s: &[u8], at: usize) -> u64
-    ensures { result ≡ le64 s.now at }
-{
-    u64::read_padded(s, at)
-}
-
-// Writes a number of two bytes from index at on.
-pub fn write16(s: &mut [u8], at: usize, v: u16)
-    requires { at + 2 ≤ length s.old }
-    ensures { s.new ≡ patch s.old at (le_bytes 2 v) }
-{
-    v.write(s, at);
-}
-
-// Of four.
-pub fn write32(s: &mut [u8], at: usize, v: u32)
-    requires { at + 4 ≤ length s.old }
-    ensures { s.new ≡ patch s.old at (le_bytes 4 v) }
-{
-    v.write(s, at);
-}
-
-// Of eight.
-pub fn write64(s: &mut [u8], at: usize, v: u64)
-    requires { at + 8 ≤ length s.old }
-    ensures { s.new ≡ patch s.old at (le_bytes 8 v) }
-{
-    v.write(s, at);
 }

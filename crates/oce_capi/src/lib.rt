@@ -30,17 +30,17 @@ fn in_numbers(a: Answer) -> OceAnswer
     ensures { result ≡ numbers a }
 {
     match a {
-        Answer::Refused { number, at } => OceAnswer {
-            refusal: number,
-            at,
-            errors: 0,
-            warnings: 0,
-        },
-        Answer::Checked { errors, warnings } => OceAnswer {
+        Ok(counted) => OceAnswer {
             refusal: 0,
             at: 0,
-            errors,
-            warnings,
+            errors: counted.errors,
+            warnings: counted.warnings,
+        },
+        Err(refusal) => OceAnswer {
+            refusal: refusal.number,
+            at: refusal.offset,
+            errors: 0,
+            warnings: 0,
         },
     }
 }
@@ -75,15 +75,15 @@ fn in_three_numbers(a: BatchAnswer) -> OceBatchAnswer
     ensures { result ≡ three_numbers a }
 {
     match a {
-        BatchAnswer::Refused { number, at } => OceBatchAnswer {
-            refusal: number as u64,
-            at: at as u64,
-            written: 0,
-        },
-        BatchAnswer::Written(written) => OceBatchAnswer {
+        Ok(written) => OceBatchAnswer {
             refusal: 0,
             at: 0,
             written: written as u64,
+        },
+        Err(refusal) => OceBatchAnswer {
+            refusal: u64::from(refusal.number),
+            at: refusal.offset as u64,
+            written: 0,
         },
     }
 }

@@ -4,9 +4,7 @@
 #![tactic(auto)]
 
 use base::part_of;
-use image_texts::same_bytes;
 use oce_model::LONGEST_IMAGE;
-use outcome::Answer;
 use print_batch::{Unprinted, print_batch_from};
 use print_check::{print_check, print_fields, read_image};
 use std::env::{Env, FillError};
@@ -19,61 +17,34 @@ const READ: usize = LONGEST_IMAGE + 1;
 // No file has a longer name.
 const LONGEST_NAME: usize = 4096;
 
+// The program's own name, two arguments, and one to notice that there are more.
+const MOST_ARGS: usize = 4;
+
+// What --help prints.
+const HELP: &[u8] = b"\
+oce_check checks a control model and prints its report.
+
+  oce_check                  the image on standard input
+  oce_check IMAGE            the image in a file
+  oce_check IMAGE FILLED     and writes the filled image to a new file, or for - behind the report
+  oce_check --fields IMAGE   lists the fields of the image in a file
+  oce_check --batch          the images of a batch on standard input
+  oce_check --batch BATCH    the images of a batch in a file
+
+The first line is 'errors N warnings M' or 'refused N at M'; a line a diagnostic follows:
+severity, code, rule and detail, place, subject. A refused image gives no filled image.
+A line of --fields has a field's offset, tag and length, up to the first that runs past the end.
+After --batch a line 'image I', I from 0, stands before each image's lines; a refused batch gives one line.
+";
+
 // ---- what is said; that it can't be written stops nothing
 
 fn print(rt: &HostRuntime, text: &[u8]) {
     let _ = rt.stdout().write_all(text);
 }
 
-fn print_help(rt: &HostRuntime) {
-    print(
-        rt,
-        b"oce_check checks a control model and prints its report.\n\n",
-    );
-    print(
-        rt,
-        b"  oce_check                  the image on standard input\n",
-    );
-    print(rt, b"  oce_check IMAGE            the image in a file\n");
-    print(
-        rt,
-        b"  oce_check IMAGE FILLED     and writes the filled image to a new file, or for - behind the report\n",
-    );
-    print(
-        rt,
-        b"  oce_check --fields IMAGE   lists the fields of the image in a file\n",
-    );
-    print(
-        rt,
-        b"  oce_check --batch          the images of a batch on standard input\n",
-    );
-    print(
-        rt,
-        b"  oce_check --batch BATCH    the images of a batch in a file\n\n",
-    );
-    print(
-        rt,
-        b"The first line is 'errors N warnings M' or 'refused N at M'; a line a diagnostic follows:\n",
-    );
-    print(
-        rt,
-        b"severity, code, rule and detail, place, subject. A refused image gives no filled image.\n",
-    );
-    print(
-        rt,
-        b"A line of --fields has a field's offset, tag and length, up to the first that runs past the end.\n",
-    );
-    print(
-        rt,
-        b"After --batch a line 'image I', I from 0, stands before each image's lines; a refused batch gives one line.\n",
-    );
-}
-
-fn complain(rt: &HostRuntime, text: &[u8]) {
-    let mut errors = rt.stderr();
-    let _ = errors.write_all(b"oce_check: ");
-    let _ = errors.write_all(text);
-    let _ = errors.write_all(b"\n");
+fn complain(rt: &HostRuntime, text: &str) {
+    let _ = writeln!(rt.stderr(), "oce_check: {text}");
 }
 
 fn complain_of(rt: &HostRuntime, what: &[u8], why: Error) {
@@ -84,13 +55,27 @@ fn complain_of(rt: &HostRuntime, what: &[u8], why: Error) {
 
 // How many there are, the program's own name among them; more than four count as four.
 fn arg_count(rt: &HostRuntime) -> usize {
-    for i in 0..4 {
-        let mut none = [0u8; 0];
-        if let Err(FillError::NotPresent) = rt.arg(i, &mut none) {
-            return i;
+    (0..MOST_ARGS)
+        .find(|&i| matches!(rt.arg(i, &mut []), Err(FillError::NotPresent)))
+        .unwrap_or(MOST_ARGS)
+}
+
+// Argument i, read to a buffer; says so if it is too long.
+fn argument<'a>(rt: &HostRuntime, i: usize, name: &'a mut [u8]) -> Option<&'a [u8]> {
+    match rt.arg(i, name) {
+        Ok(n) => Some(part_of(name, 0, n)),
+        Err(_) => {
+            complain(
+                rt,
+                if i == 1 {
+                    "the first argument is too long"
+                } else {
+                    "the second argument is too long"
+                },
+            );
+            None
         }
     }
-    4
 }
 
 // ---- one image
@@ -110,15 +95,10 @@ fn write_filled(rt: &HostRuntime, name: &[u8], filled: &[u8]) {
 
 fn write_filled_as(rt: &HostRuntime, i: usize, filled: &[u8]) {
     let mut name = [0u8; LONGEST_NAME];
-    match rt.arg(i, &mut name) {
-        Ok(n) => {
-            if same_bytes(&name[..n], b"-") {
-                print(rt, filled);
-                return;
-            }
-            write_filled(rt, &name[..n], filled);
-        }
-        Err(_) => complain(rt, b"the second argument is too long"),
+    match argument(rt, i, &mut name) {
+        Some(b"-") => print(rt, filled),
+        Some(name) => write_filled(rt, name, filled),
+        None => {}
     }
 }
 
@@ -127,14 +107,14 @@ fn check_image(rt: &HostRuntime, image: &[u8], i: usize) {
     let mut filled = [0u8; LONGEST_IMAGE];
     let outcome = print_check(&mut rt.stdout(), image, &mut filled);
     if outcome.printed.is_err() {
-        complain(rt, b"not all of the report could be written");
+        complain(rt, "not all of the report could be written");
     }
     if arg_count(rt) <= i {
         return;
     }
     match outcome.answer {
-        Answer::Refused { .. } => complain(rt, b"a refused image gives no filled image"),
-        Answer::Checked { .. } => write_filled_as(rt, i, part_of(&filled, 0, image.len())),
+        Ok(_) => write_filled_as(rt, i, part_of(&filled, 0, image.len())),
+        Err(_) => complain(rt, "a refused image gives no filled image"),
     }
 }
 
@@ -147,7 +127,7 @@ fn check_stdin(rt: &HostRuntime) {
 fn check_file(rt: &HostRuntime, name: &[u8]) {
     let mut bytes = [0u8; READ];
     if let Ok(n) = read_image(rt, &mut rt.stderr(), name, &mut bytes) {
-        check_image(rt, part_of(&bytes, 0, n), 2);
+        check_image(rt, &bytes[..n], 2);
     }
 }
 
@@ -156,8 +136,8 @@ fn list_file(rt: &HostRuntime, name: &[u8]) {
     let Ok(n) = read_image(rt, &mut rt.stderr(), name, &mut bytes) else {
         return;
     };
-    if print_fields(&mut rt.stdout(), part_of(&bytes, 0, n)).is_err() {
-        complain(rt, b"not all of the fields could be listed");
+    if print_fields(&mut rt.stdout(), &bytes[..n]).is_err() {
+        complain(rt, "not all of the fields could be listed");
     }
 }
 
@@ -166,14 +146,13 @@ fn list_named(rt: &HostRuntime, count: usize) {
     if count <= 2 {
         complain(
             rt,
-            b"--fields needs an image; oce_check --help tells its use",
+            "--fields needs an image; oce_check --help tells its use",
         );
         return;
     }
     let mut name = [0u8; LONGEST_NAME];
-    match rt.arg(2, &mut name) {
-        Ok(n) => list_file(rt, &name[..n]),
-        Err(_) => complain(rt, b"the second argument is too long"),
+    if let Some(name) = argument(rt, 2, &mut name) {
+        list_file(rt, name);
     }
 }
 
@@ -183,8 +162,8 @@ fn list_named(rt: &HostRuntime, count: usize) {
 fn complain_of_batch(rt: &HostRuntime, why: Unprinted, name: &[u8]) {
     match why {
         Unprinted::Unreadable(why) => complain_of(rt, name, why),
-        Unprinted::TooLong => complain(rt, b"the batch is longer than 4194304 bytes"),
-        Unprinted::NotWritten(_) => complain(rt, b"not all of the report could be written"),
+        Unprinted::TooLong => complain(rt, "the batch is longer than 4194304 bytes"),
+        Unprinted::NotWritten(_) => complain(rt, "not all of the report could be written"),
     }
 }
 
@@ -208,28 +187,20 @@ fn check_images(rt: &HostRuntime, count: usize) {
         return;
     }
     let mut name = [0u8; LONGEST_NAME];
-    match rt.arg(2, &mut name) {
-        Ok(n) => check_batch_file(rt, &name[..n]),
-        Err(_) => complain(rt, b"the second argument is too long"),
+    if let Some(name) = argument(rt, 2, &mut name) {
+        check_batch_file(rt, name);
     }
 }
 
 // ---- what the first argument asks for
 
 fn run(rt: &HostRuntime, first: &[u8], count: usize) {
-    if same_bytes(first, b"--help") {
-        print_help(rt);
-        return;
+    match first {
+        b"--help" => print(rt, HELP),
+        b"--fields" => list_named(rt, count),
+        b"--batch" => check_images(rt, count),
+        _ => check_file(rt, first),
     }
-    if same_bytes(first, b"--fields") {
-        list_named(rt, count);
-        return;
-    }
-    if same_bytes(first, b"--batch") {
-        check_images(rt, count);
-        return;
-    }
-    check_file(rt, first);
 }
 
 fn main(rt: HostRuntime) {
@@ -241,13 +212,12 @@ fn main(rt: HostRuntime) {
     if 3 < count {
         complain(
             &rt,
-            b"more than two arguments; oce_check --help tells its use",
+            "more than two arguments; oce_check --help tells its use",
         );
         return;
     }
     let mut name = [0u8; LONGEST_NAME];
-    match rt.arg(1, &mut name) {
-        Ok(n) => run(&rt, &name[..n], count),
-        Err(_) => complain(&rt, b"the first argument is too long"),
+    if let Some(name) = argument(&rt, 1, &mut name) {
+        run(&rt, name, count);
     }
 }

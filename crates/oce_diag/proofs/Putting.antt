@@ -1,21 +1,19 @@
 -- Laws of a report that diagnostics are put into: one run after another, and a loop that puts some in each turn.
 use Prim.Native.Nat.{ℕ, suc, ◌+◌, ◌*◌, ◌≤◌, ◌<◌}
-use native.Mathlib.Nat.{add-zero, mul-zero, mul-suc, mul-le-mul_left}
-use native.Mathlib.Numerals.{add-one}
+use native.Mathlib.Nat.{add-zero}
 use native.Mathlib.Omega.{arith}
-use mathlib.Core.Path.{◌≡◌, refl, sym, ap, ◌∙◌}
+use mathlib.Core.Path.{◌≡◌, refl, sym, ◌∙◌}
 use mathlib.Core.Bool.{Bool, true, false, cond}
 use mathlib.Core.List.{List, [], ◌∷◌, ◌++◌}
 use lib.Dec.{leb}
 use lib.ListN.{length}
 use borrow.Author.Tests.{le-leb, lt-leb, leb-true}
-use Rattle.base.specs.Lists.{each, keep, only}
+use Rattle.base.specs.Lists.{keep, only}
 use Rattle.base.specs.Buffers.{patch, starts_with}
-use Rattle.base.proofs.Lists.{each_next}
 use Rattle.base.proofs.Buffers.{patch-none, patch-length, patch-patch, starts_with-patch}
 use Rattle.oce_diag.specs.Diagnostics.{errors, warnings}
 use Rattle.oce_diag.specs.Encoding.{diagnostic_size, diagnostic_bytes, report_bytes}
-use Rattle.oce_diag.specs.Putting.{put_one, put_all, total, Countable, Adds, Put, Emits}
+use Rattle.oce_diag.specs.Putting.{put_one, put_all, total, Put}
 use Rattle.oce_diag.specs.declared.Diagnostic.{Diagnostic}
 use Rattle.oce_diag.specs.declared.Counted.{Counted}
 use Rattle.oce_diag.proofs.Diagnostics.{errors-append, warnings-append, errors-warnings}
@@ -104,10 +102,6 @@ module _ {b b' : List ℕ} {c c' : Counted} {t : Bool} where
 pub put-skip : {b : List ℕ} {c : Counted} {t : Bool} (d : Diagnostic) → t ≡ false → Put b c (only t d) b c
 put-skip d e = rw e put-none
 
--- a test and what is put where it passes, by other names
-pub put_as : {b b' : List ℕ} {c c' : Counted} {t u : Bool} {x d : Diagnostic} → Put b c (only t x) b' c' → t ≡ u → x ≡ d → Put b c (only u d) b' c'
-put_as p e f = rw (← e, ← f) p
-
 -- ---- what a run leaves
 
 module _ {b : List ℕ} {c : Counted} {ds : List Diagnostic} {b' : List ℕ} {c' : Counted} (p : Put b c ds b' c') where
@@ -123,35 +117,3 @@ module _ {b : List ℕ} {c : Counted} {ds : List Diagnostic} {b' : List ℕ} {c'
 
   pub put-room : total c ≡ 0 → diagnostic_size * length ds ≤ length b → b' ≡ starts_with (report_bytes ds) b
   put-room h room = p.bytes ∙ rw h (put_all-room ds b 0 (omega arith) ∙ sym (starts_with-patch (report_bytes ds) b))
-
--- ---- a loop that puts f i in turn i
-
-module _ {f : ℕ → List Diagnostic} {k m : ℕ} {b₀ : List ℕ} {c₀ : Counted} where
-  pub emits_start : Emits f k m b₀ c₀ b₀ c₀ 0
-  unfolding each
-  emits_start = record { within = omega arith; few = omega (arith, mul-zero k); put = put-none }
-
-  pub emits-turn : {b b' : List ℕ} {c c' : Counted} {i : ℕ}
-      → Emits f k m b₀ c₀ b c i → Put b c (f i) b' c' → Adds k c c' → i < m → Emits f k m b₀ c₀ b' c' (i + 1)
-  emits-turn {i = i} v p l h = record {
-    within = omega arith;
-    few = omega (arith, v.few, mul-suc k i, ap (λ (x : ℕ). k * x) (add-one i));
-    put = rw (each_next i f) (put_then v.put p);
-  }
-
-  pub emits-put : {b : List ℕ} {c : Counted} {i : ℕ} → Emits f k m b₀ c₀ b c i → m ≤ i → Put b₀ c₀ (each m f) b c
-  emits-put {i = i} v h = let e : m ≡ i = omega (arith, v.within) in rw e v.put
-
-  pub emits-few : {b : List ℕ} {c : Counted} {i : ℕ} → Emits f k m b₀ c₀ b c i → m ≤ i → Adds (k * m) c₀ c
-  emits-few {i = i} v h = let e : m ≡ i = omega (arith, v.within) in rw e v.few
-
-  -- where at most n turns can come, t diagnostics: how many it has counted in the end, and that each turn may count its own
-  module _ {b : List ℕ} {c : Counted} {i n t : ℕ} (v : Emits f k m b₀ c₀ b c i) where
-    pub emits-adds : m ≤ n → k * n ≤ t → Adds t c₀ c
-    emits-adds h e = omega (arith, v.few, mul-le-mul_left {m = i} {n = n} k (omega (arith, v.within)))
-
-    pub emits-countable : m ≤ n → k * n ≤ t → Countable t c₀ → i < m → Countable k c
-    emits-countable h e p l = omega (arith, v.few, mul-suc k i, mul-le-mul_left {m = suc i} {n = n} k (omega arith))
-
-  pub emits-length : {b : List ℕ} {c : Counted} {i : ℕ} → Emits f k m b₀ c₀ b c i → length b ≡ length b₀
-  emits-length v = put-length v.put

@@ -1,6 +1,5 @@
 -- Diagnostics put into a report one after the other: each is written where it fits, and counted in any case.
 use Rattle.std.specs.Prelude.{ℕ, suc, ◌+◌, ◌*◌, ◌≤◌, ◌<◌, ◌≡◌, cond, List, [], ◌∷◌, leb, length}
-use Rattle.base.specs.Lists.{each}
 use Rattle.base.specs.Buffers.{patch}
 use Rattle.numbers.specs.Bytes.{word_range}
 use Rattle.oce_diag.specs.Diagnostics.{errors, warnings}
@@ -34,9 +33,3 @@ pub record Put (b : List ℕ) (c : Counted) (ds : List Diagnostic) (b' : List �
   pub errors : c'.errors ≡ c.errors + errors ds
   pub warnings : c'.warnings ≡ c.warnings + warnings ds
   pub bytes : b' ≡ put_all b (total c) ds
-
--- a loop over 0 .. m that puts f i, at most k of them in each turn, at turn i
-pub record Emits (f : ℕ → List Diagnostic) (k m : ℕ) (b₀ : List ℕ) (c₀ : Counted) (b : List ℕ) (c : Counted) (i : ℕ) : Type 0 where
-  pub within : i ≤ m
-  pub few : total c ≤ total c₀ + k * i
-  pub put : Put b₀ c₀ (each i f) b c

@@ -6,7 +6,7 @@ ghost use Rattle.base.specs.Lists.{only};
 ghost use Rattle.oce_diag.specs.Diagnostics.{connector_subject, block_subject, error, warning, errors, warnings};
 ghost use Rattle.oce_diag.specs.Encoding.{severity_number, code_number, subject_kind, subject_number, diagnostic_bytes, diagnostic_size};
 ghost use Rattle.oce_diag.specs.Putting.{put_one, total, Put, Countable, Adds};
-ghost use Rattle.numbers.specs.Bytes.{short_range, word_range, byte, long_range};
+ghost use Rattle.numbers.specs.Bytes.{word_range, byte, long_range};
 ghost use Rattle.oce_diag.specs.Decoded.{severity_of, code_of, subject_from, decoded_at, diagnostic_at};
 
 mod report;
@@ -57,10 +57,10 @@ pub struct Diagnostic {
 }
 
 // How many errors and how many warnings were counted.
-#[derive(Clone, Copy)]
+#[derive(Clone, Copy, PartialEq, Eq, Debug)]
 pub struct Counted {
-    pub errors: usize,
-    pub warnings: usize,
+    pub errors: u32,
+    pub warnings: u32,
 }
 
 // The tag of a diagnostic's field, the bytes of its contents, and of all of it.
@@ -88,34 +88,32 @@ pub const PLACE_PLACE: usize = SUBJECT_NUMBER_PLACE + 4;
 // The numbers of the kinds of subject.
 const NO_SUBJECT: u8 = 0;
 
-pub const TEXT_SUBJECT: u8 = 1;
+const TEXT_SUBJECT: u8 = 1;
 
-pub const CONNECTOR_SUBJECT: u8 = 2;
+const CONNECTOR_SUBJECT: u8 = 2;
 
-pub const BLOCK_SUBJECT: u8 = 3;
+const BLOCK_SUBJECT: u8 = 3;
 
 // ---- making a diagnostic
 
 // The Rust's `subject_of`: a connector's iri text, or its id where it has none.
-pub fn subject_of(iri: usize, id: ConnectorId) -> Subject
-    requires { iri < short_range }
+pub fn subject_of(iri: u16, id: ConnectorId) -> Subject
     ensures { result ≡ connector_subject iri id }
 {
     if iri == NO_TEXT {
         return Subject::Connector(id);
     }
-    Subject::Text(iri as u32)
+    Subject::Text(u32::from(iri))
 }
 
 // The Rust's `block_subject_of`: a block's instance text, or its id where it has none.
-pub fn block_subject_of(instance: usize, id: BlockId) -> Subject
-    requires { instance < short_range }
+pub fn block_subject_of(instance: u16, id: BlockId) -> Subject
     ensures { result ≡ block_subject instance id }
 {
     if instance == NO_TEXT {
         return Subject::Block(id);
     }
-    Subject::Text(instance as u32)
+    Subject::Text(u32::from(instance))
 }
 
 // An error.
@@ -259,26 +257,6 @@ fn count(c: Counted, d: Diagnostic) -> Counted
     }
 }
 
-// The next diagnostic of a report: written where there is room for it, and counted in any case.
-pub fn put(report: &mut [u8], counted: Counted, d: Diagnostic) -> Counted
-    requires { Countable 1 counted }
-    ensures { Put report.old counted (d ∷ []) report.new result × Adds 1 counted result }
-{
-    write(report, counted.errors + counted.warnings, d);
-    count(counted, d)
-}
-
-// Puts a diagnostic where a test passes.
-pub fn put_if(report: &mut [u8], counted: Counted, bad: bool, d: Diagnostic) -> Counted
-    requires { Countable 1 counted }
-    ensures { Put report.old counted (only bad d) report.new result × Adds 1 counted result }
-{
-    if bad {
-        return put(report, counted, d);
-    }
-    counted
-}
-
 // ---- reading it back
 
 // The severity, the code and the subject that have the given numbers. Numbers that nothing has are read as
@@ -307,7 +285,8 @@ fn code_of(n: u8) -> DiagCode
     }
 }
 
-fn subject_from(kind: u8, number: u32) -> Subject
+// The subject of a kind's number and a number, none for another kind.
+pub fn subject_from(kind: u8, number: u32) -> Subject
     ensures { result ≡ subject_from kind number }
 {
     if kind == TEXT_SUBJECT {

@@ -4,7 +4,7 @@ ghost use Rattle.std.specs.Prelude.{[], ◌∷◌};
 ghost use Rattle.base.specs.Lists.{only};
 ghost use Rattle.oce_diag.specs.Reporting.{Room, Puts};
 
-use super::{Counted, Diagnostic, put};
+use super::{Counted, Diagnostic, count, write};
 
 pub struct Report<'a> {
     pub bytes: &'a mut [u8],
@@ -17,7 +17,9 @@ impl Report<'_> {
         requires { Room 1 self.old }
         ensures { Puts 1 (d ∷ []) self.old self.new }
     {
-        self.counted = put(self.bytes, self.counted, d);
+        let n = self.counted.errors + self.counted.warnings;
+        write(self.bytes, n as usize, d);
+        self.counted = count(self.counted, d);
     }
 
     // Puts a diagnostic where a test passes.

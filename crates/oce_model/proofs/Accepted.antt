@@ -14,7 +14,8 @@ use Rattle.numbers.specs.Bytes.{byte}
 use Rattle.oce_model.specs.Format.{block_tag, boundary_input_tag, boundary_output_tag, connection_tag, connector_tag, external_input_tag, head_tag, highest_tag, text_tag, fixed_length, most_ports, shortest_image, longest_image}
 use Rattle.oce_model.specs.Image.{field_at, field_end, fields, of_tag, stop, stop_from}
 use Rattle.oce_model.specs.Model.{input_count_at, output_count_at, boundary_input, boundary_input_at, boundary_input_count, boundary_output, boundary_output_at, boundary_output_count, connection, connection_at, connection_count, connector, connector_at, connector_count, model_of, no_boundary_input, no_boundary_output, no_connection, no_connector}
-use Rattle.oce_model.specs.Refusals.{Refusal, bad_block_length, bad_contents, bad_length, bad_reference, bad_tag, bad_text, fault, refusal, refusals_from, refused_at, tag_is_bad, too_many}
+use Rattle.oce_model.specs.Refusals.{bad_block_length, bad_contents, bad_length, bad_reference, bad_tag, bad_text, fault, refusal, refusals_from, refused_at, tag_is_bad, too_many}
+use Rattle.oce_model.specs.declared.Refusal.{Refusal}
 use Rattle.oce_model.specs.declared.Field.{Field}
 use Rattle.base.proofs.Lists.{or_parts}
 use Rattle.base.proofs.Members.{get_or-map}

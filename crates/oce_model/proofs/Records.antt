@@ -14,9 +14,10 @@ use lib.Dec.{leb, eqb, ltb}
 use Rattle.base.specs.Lists.{keep}
 use Rattle.numbers.specs.Bytes.{byte}
 use Rattle.oce_model.specs.Format.{fixed_length, leading_bytes, text_tag, block_tag, connector_tag, connection_tag, external_input_tag, boundary_input_tag, boundary_output_tag, connector_size, connection_size, external_input_size, boundary_input_size, boundary_output_size}
+use Rattle.oce_model.specs.declared.Dir.TheVariants.{In, Out}
 use Rattle.oce_model.specs.declared.Field.{Field}
 use Rattle.oce_model.specs.Image.{field_at, field_end, fields, fields_from, first, of_tag, or_end, ord_of, start_of}
-use Rattle.oce_model.specs.Model.{boundary_input, boundary_input_at, boundary_input_count, boundary_output, boundary_output_at, boundary_output_count, connection, connection_at, connection_count, connector, connector_at, connector_count, external_input_at, model_of}
+use Rattle.oce_model.specs.Model.{Connector, dir_of, inwards, is_in, boundary_input, boundary_input_at, boundary_input_count, boundary_output, boundary_output_at, boundary_output_count, connection, connection_at, connection_count, connector, connector_at, connector_count, external_input_at, model_of}
 use Rattle.oce_model.specs.Refusals.{bad_length, bad_tag, tag_is_bad}
 use Rattle.base.proofs.Lists.{or_parts}
 use Rattle.base.proofs.Members.{get_or-map}
@@ -152,3 +153,13 @@ module _ (s : List ℕ) (acc : Accepted s) where
   unfolding fixed_length
   output-at i l =
       output-is s i l ∙ ap (boundary_output_at s) (nth-at boundary_output_tag boundary_output_size i (omega arith) (omega arith) refl (rw (outputs-length s) at l))
+
+-- ---- a direction as code has it
+
+pub inwards_is : (c : Connector) → inwards (dir_of c) ≡ is_in c
+unfolding dir_of
+inwards_is c = by (is_in c)
+  where
+    by : (t : Bool) → inwards (cond t In Out) ≡ t
+    by true = refl
+    by false = refl

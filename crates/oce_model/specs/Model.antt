@@ -1,11 +1,13 @@
 -- The model that an image holds: its records, in the order of their fields, as far as the rules ask for them. FORMAT 3; the Rust's `ModelGraph`.
-use Rattle.std.specs.Prelude.{ℕ, ◌+◌, ◌*◌, Bool, List, [], map, length, get_or, eqb, ltb, ℤ}
+use Rattle.std.specs.Prelude.{ℕ, ◌+◌, ◌*◌, Bool, true, false, cond, List, [], map, length, get_or, eqb, ltb, ℤ}
 use Rattle.base.specs.Lists.{tab}
 use Rattle.numbers.specs.Bytes.{byte, le16, le32, le64, signed64}
 use Rattle.oce_model.specs.Format.{text_tag, block_tag, connector_tag, connection_tag, external_input_tag, boundary_input_tag, boundary_output_tag, port_length, block_ports, dir_in, connector_attrs, boundary_input_attrs, boundary_output_attrs, head_min_at, head_max_at, block_id_at, block_instance_at, block_inputs_at, block_outputs_at, connector_id_at, connector_block_at, connector_dir_at, connector_type_at, connector_class_at, connector_iri_at, connection_from_at, connection_to_at, external_input_id_at, boundary_input_iri_at, boundary_output_iri_at, boundary_output_source_at}
 use Rattle.oce_model.specs.Attributes.{Attrs, no_attrs, attrs_at}
 use Rattle.oce_model.specs.Image.{fields, of_tag}
 use Rattle.oce_model.specs.Texts.{text_of}
+use Rattle.oce_model.specs.declared.Dir.{Dir}
+use Rattle.oce_model.specs.declared.Dir.TheVariants.{In, Out}
 
 -- the head's Integer defaults: what an Integer end is that isn't set. FORMAT 13
 pub record Defaults : Type 0 where
@@ -188,3 +190,12 @@ is_connector m i = ltb i (connector_count m)
 -- `Dir::In`; a connector that is not In is Out
 abbrev pub is_in : Connector → Bool
 is_in c = eqb c.dir dir_in
+
+-- its direction, as code has it
+unfoldable pub dir_of : Connector → Dir
+dir_of c = cond (is_in c) In Out
+
+-- it is In
+abbrev pub inwards : Dir → Bool
+inwards In = true
+inwards Out = false

@@ -7,12 +7,8 @@ use Rattle.oce_model.specs.Format.{head_tag, text_tag, block_tag, connector_tag,
 use Rattle.oce_model.specs.Attributes.{Attrs, attrs_at, num}
 use Rattle.oce_model.specs.Image.{Field, fields, stop, of_tag, first}
 use Rattle.oce_model.specs.Texts.{is_text_byte, text_of}
+use Rattle.oce_model.specs.declared.Refusal.{Refusal}
 use Rattle.oce_model.specs.Model.{Connector, input_count_at, output_count_at, block_at, connector_at, boundary_input_at, boundary_output_at}
-
--- a refusal's number and offset
-pub record Refusal : Type 0 where
-  pub number : ℕ
-  pub offset : ℕ
 
 -- ---- 1 and 2: the whole image
 

@@ -4,6 +4,7 @@
 ghost use Rattle.std.specs.Prelude.{◌≡◌, ◌<◌};
 ghost use Rattle.numbers.specs.Bytes.{bit};
 ghost use Rattle.oce_model.specs.Attributes.{num, real_attrs, int_attrs};
+ghost use Rattle.oce_model.specs.Model.{inwards};
 
 use numbers::{int_of_bits, is_set, real_of_bits};
 
@@ -19,6 +20,13 @@ pub struct Field {
     pub ord: usize,
 }
 
+// Why an image is refused: the refusal's number by FORMAT 6, and an offset.
+#[derive(Clone, Copy, PartialEq, Eq, Debug)]
+pub struct Refusal {
+    pub number: u32,
+    pub offset: u32,
+}
+
 // The Rust's `BlockId` and `ConnectorId`: numbers of blocks and of connectors, kept apart.
 #[derive(Clone, Copy)]
 pub struct BlockId(pub u32);
@@ -26,32 +34,22 @@ pub struct BlockId(pub u32);
 #[derive(Clone, Copy)]
 pub struct ConnectorId(pub u32);
 
-// What stands in front of a block's ports: its id, its instance text, and how many inputs and outputs it
-// has. The Rust's `BlockInstance` has the ports as well.
-#[derive(Clone, Copy)]
-pub struct BlockFront {
-    pub id: BlockId,
-    pub instance: usize,
-    pub inputs: usize,
-    pub outputs: usize,
-}
-
 // What stands in front of a connector's attributes, the Rust's `Connector` without them; value_type and
 // class are its `ValueType`.
 #[derive(Clone, Copy)]
 pub struct ConnectorFront {
     pub id: ConnectorId,
     pub block: BlockId,
-    pub dir: usize,
-    pub value_type: usize,
-    pub class: usize,
-    pub iri: usize,
+    pub dir: Dir,
+    pub value_type: u8,
+    pub class: u32,
+    pub iri: u16,
 }
 
 // What stands in front of a boundary output's attributes, the Rust's `BoundaryOutput` without them.
 #[derive(Clone, Copy)]
 pub struct BoundaryOutputFront {
-    pub iri: usize,
+    pub iri: u16,
     pub source: ConnectorId,
 }
 
@@ -111,7 +109,16 @@ pub struct Connection {
     pub to: ConnectorId,
 }
 
-// ---- what attributes say
+// ---- what a direction and what attributes say
+
+impl Dir {
+    // It is an input's.
+    pub fn is_in(self) -> bool
+        ensures { result ≡ inwards self }
+    {
+        matches!(self, Dir::In)
+    }
+}
 
 impl Attrs {
     // Bit p is set.
@@ -219,18 +226,7 @@ pub const LONGEST_IMAGE: usize = 65535;
 
 pub const VERSION: usize = 1;
 
-pub const REAL_KIND: usize = 0;
-
-pub const INTEGER_KIND: usize = 1;
-
-pub const ENUM_KIND: usize = 4;
-
-// directions, as the Rust's `Dir`
-pub const DIR_IN: usize = 0;
-
-pub const DIR_OUT: usize = 1;
-
-pub const NO_TEXT: usize = 65535;
+pub const NO_TEXT: u16 = 65535;
 
 pub const QUANTITY_BIT: usize = 0;
 
@@ -341,3 +337,6 @@ pub const ATTRS_MIN_AT: usize = ATTRS_DISPLAY_UNIT_AT + 2;
 pub const ATTRS_MAX_AT: usize = ATTRS_MIN_AT + 8;
 
 pub const ATTRS_NOMINAL_AT: usize = ATTRS_MAX_AT + 8;
+
+// and how many bytes they have
+pub const ATTRS_LENGTH: usize = ATTRS_NOMINAL_AT + 8;

@@ -1,18 +1,19 @@
 -- Each way that a checking call can end gives what the definitions say.
-use Prim.Native.Nat.{ℕ, ◌+◌, ◌-◌, ◌*◌, ◌<◌, ◌≤◌}
+use Prim.Native.Nat.{ℕ, ◌*◌, ◌<◌, ◌≤◌}
 use native.Mathlib.Omega.{arith}
 use mathlib.Core.Path.{◌≡◌, refl, sym, ap, ◌∙◌}
 use mathlib.Core.List.{List}
-use Rattle.std.specs.Prelude.{Option, Some, None}
+use Rattle.std.specs.Prelude.{Some, None, Ok, Err}
 use lib.ListN.{length, take}
 use lib.Seq.{take-append_seam}
-use mir.Syntax.{w32, w64}
+use mir.Syntax.{w32}
 use mir.Val.{Fits}
 use borrow.Author.Tests.{lt-ltb, le-ltb}
 use Rattle.base.specs.Buffers.{starts_with, patch}
 use Rattle.base.proofs.Buffers.{starts_with-patch}
 use Rattle.oce_model.specs.Model.{model_of}
-use Rattle.oce_model.specs.Refusals.{Refusal, refusal}
+use Rattle.oce_model.specs.Refusals.{refusal}
+use Rattle.oce_model.specs.declared.Refusal.{Refusal}
 use Rattle.oce_model.proofs.Accepted.{accepted}
 use Rattle.oce_diag.specs.Diagnostics.{errors, warnings}
 use Rattle.oce_diag.specs.Encoding.{diagnostic_size, report_bytes}
@@ -24,8 +25,7 @@ use Rattle.oce_diag.proofs.Encoding.{report_bytes-length}
 use Rattle.unify.specs.Slots.{Slots}
 use Rattle.outcome.specs.Filled.{with_slots, filled_of}
 use Rattle.outcome.specs.Report.{final_slots}
-use Rattle.outcome.specs.Answer.{report_of, report_size, answer_for, answer, filled_after, report_after}
-use Rattle.outcome.specs.declared.Answer.TheVariants.{Refused, Checked}
+use Rattle.outcome.specs.Answer.{report_of, report_size, answer, filled_after, report_after}
 use Rattle.rules.specs.Ran.{Ran}
 use Rattle.moved.proofs.Bytes.{Bytes}
 use Rattle.moved.proofs.FilledImage.{filled-undone}
@@ -87,41 +87,44 @@ image-small s h = record { fits = omega (arith, (accepted s h).short) }
 -- ---- the answer
 
 -- an answer that is known gives the buffers
-refused-so : (s f r : List ℕ) (n at : ℕ) → answer s (length f) (length r) ≡ Refused n at → Answered s f r (Refused n at) f r
+refused-so : (s f r : List ℕ) (x : Refusal) → answer s (length f) (length r) ≡ Err x → Answered s f r (Err x) f r
 unfolding filled_after report_after
-refused-so s f r n at e = record { answer = sym e; filled = rw e; report = rw e }
+refused-so s f r x e = record { answer = sym e; filled = rw e; report = rw e }
 
-checked-so : (s f r : List ℕ) (e w : ℕ) → answer s (length f) (length r) ≡ Checked e w → Answered s f r (Checked e w) (starts_with (filled_of s) f) (starts_with (report_bytes (report_of s)) r)
+checked-so : (s f r : List ℕ) (c : Counted) → answer s (length f) (length r) ≡ Ok c → Answered s f r (Ok c) (starts_with (filled_of s) f) (starts_with (report_bytes (report_of s)) r)
 unfolding filled_after report_after
-checked-so s f r e w q = record { answer = sym q; filled = rw q; report = rw q }
+checked-so s f r c q = record { answer = sym q; filled = rw q; report = rw q }
 
 -- refusals 1 to 8
-pub turned-away : {s : List ℕ} (f r : List ℕ) {n at : ℕ} → refusal s ≡ Some (record { number = n; offset = at }) → Answered s f r (Refused n at) f r
+pub turned-away : {s : List ℕ} (f r : List ℕ) {x : Refusal} → refusal s ≡ Some x → Answered s f r (Err x) f r
 unfolding answer
-turned-away {s} f r {n} {at} e = refused-so s f r n at (rw e)
+turned-away {s} f r {x} e = refused-so s f r x (rw e)
 
 module _ {s : List ℕ} (f r : List ℕ) (h : refusal s ≡ None) where
   -- refusal 9
-  pub short-filled : length f < length s → Answered s f r (Refused 9 (length s)) f r
+  pub short-filled : length f < length s → Answered s f r (Err (record { number = 9; offset = length s })) f r
   unfolding answer
-  short-filled l = refused-so s f r 9 (length s) (rw (h, lt-ltb (length f) (length s) l))
+  short-filled l = refused-so s f r _ (rw (h, lt-ltb (length f) (length s) l))
 
   module _ {σ : Slots} {c : Counted} (t : Tallied s σ c) where
     size_is : diagnostic_size * total c ≡ report_size (report_of s)
     size_is = let e = t.errors in let w = t.warnings in let n = errors-warnings (report_of s) in ap (λ k. diagnostic_size * k) (omega arith)
 
     -- refusal 10
-    pub short-report : length s ≤ length f → length r < diagnostic_size * total c → Answered s f r (Refused 10 (diagnostic_size * total c)) f r
+    pub short-report : {z : ℕ} → z ≡ diagnostic_size * total c → length s ≤ length f → length r < z → Answered s f r (Err (record { number = 10; offset = z })) f r
     unfolding answer
-    short-report k l =
-        let g : length r < report_size (report_of s) = rw size_is at l in
-        rw size_is (refused-so s f r 10 (report_size (report_of s)) (rw (h, le-ltb (length f) (length s) k, lt-ltb (length r) (report_size (report_of s)) g)))
+    short-report e k l =
+        let g : length r < report_size (report_of s) = rw (e, size_is) at l in
+        rw (e, size_is) (refused-so s f r _ (rw (h, le-ltb (length f) (length s) k, lt-ltb (length r) (report_size (report_of s)) g)))
+
+    counts-are : ◌≡◌ {A = Counted} (record { errors = errors (report_of s); warnings = warnings (report_of s) }) c
+    counts-are = rw (← t.errors, ← t.warnings) refl
 
     -- no refusal
-    pub reported : {f' r' : List ℕ} → f' ≡ starts_with (filled_of s) f → r' ≡ starts_with (report_bytes (report_of s)) r → length s ≤ length f → diagnostic_size * total c ≤ length r
-        → Answered s f r (Checked c.errors c.warnings) f' r'
+    pub reported : {z : ℕ} {f' r' : List ℕ} → z ≡ diagnostic_size * total c → f' ≡ starts_with (filled_of s) f → r' ≡ starts_with (report_bytes (report_of s)) r → length s ≤ length f → z ≤ length r
+        → Answered s f r (Ok c) f' r'
     unfolding answer
-    reported ef er k l =
-        let g : report_size (report_of s) ≤ length r = rw size_is at l in
-        rw (ef, er, t.errors, t.warnings)
-        (checked-so s f r (errors (report_of s)) (warnings (report_of s)) (rw (h, le-ltb (length f) (length s) k, le-ltb (length r) (report_size (report_of s)) g)))
+    reported e ef er k l =
+        let g : report_size (report_of s) ≤ length r = rw (e, size_is) at l in
+        rw (ef, er)
+        (checked-so s f r c (rw (h, le-ltb (length f) (length s) k, le-ltb (length r) (report_size (report_of s)) g) (ap Ok counts-are)))

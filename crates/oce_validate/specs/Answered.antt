@@ -7,8 +7,7 @@ use Rattle.oce_diag.specs.Encoding.{report_bytes}
 use Rattle.oce_diag.specs.declared.Counted.{Counted}
 use Rattle.unify.specs.Unify.{filled_slots}
 use Rattle.unify.specs.Slots.{Slots}
-use Rattle.outcome.specs.Answer.{report_of, report_size, answer, filled_after, report_after}
-use Rattle.outcome.specs.declared.Answer.{Answer}
+use Rattle.outcome.specs.Answer.{Answer, report_of, report_size, answer, filled_after, report_after}
 use Rattle.rules.specs.Ran.{most_diagnostics}
 
 -- the answer and both buffers after a call: s is the image, f and r the buffers at entry, f' and r' at exit

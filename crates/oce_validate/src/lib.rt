@@ -1,11 +1,12 @@
 // The checking call.
 #![tactic(auto)]
 
-ghost use Rattle.std.specs.Prelude.{◌≡◌, ◌*◌, ◌≤◌, length, None};
+ghost use Rattle.std.specs.Prelude.{◌≡◌, ◌*◌, ◌<◌, ◌≤◌, length, None};
 ghost use Rattle.base.specs.Buffers.{starts_with};
 ghost use Rattle.oce_model.specs.Model.{model_of};
 ghost use Rattle.oce_model.specs.Refusals.{refusal};
 ghost use Rattle.oce_diag.specs.Encoding.{diagnostic_size, report_bytes};
+ghost use Rattle.numbers.specs.Bytes.{word_range};
 ghost use Rattle.oce_diag.specs.Putting.{total};
 ghost use Rattle.unify_slots.specs.Slots.{slot_count};
 ghost use Rattle.outcome.specs.Filled.{filled_of};
@@ -17,7 +18,7 @@ use base::copy_at;
 use filling::{copy_image, fill_image};
 use image_records::Image;
 use oce_diag::{Counted, DIAGNOSTIC_SIZE};
-use oce_model::{Attrs, MOST_BLOCKS, MOST_BOUNDARY_OUTPUTS, MOST_CONNECTORS, MOST_TEXTS};
+use oce_model::{Attrs, MOST_BLOCKS, MOST_BOUNDARY_OUTPUTS, MOST_CONNECTORS, MOST_TEXTS, Refusal};
 use outcome::Answer;
 use rules::run;
 use unify_slots::{NO_ATTRS, slot_count};
@@ -27,6 +28,11 @@ pub const MOST_SLOTS: usize = MOST_CONNECTORS + MOST_BOUNDARY_OUTPUTS;
 
 // So many have a shorter table, which is sooner cleared.
 pub const FEW_SLOTS: usize = 192;
+
+// The refusals of buffers that are too short. FORMAT 6
+const SHORT_FILLED: u32 = 9;
+
+const SHORT_REPORT: u32 = 10;
 
 // Room for diagnostics that are written before it is known whether the report has room for them.
 const EARLY: usize = DIAGNOSTIC_SIZE * 64;
@@ -51,6 +57,14 @@ fn leave_filled(image: &Image, slots: &[Attrs], counted: Counted, filled: &mut [
     }
 }
 
+// The bytes of the report in which so many are counted.
+fn size_of(counted: Counted) -> usize
+    requires { total counted < word_range }
+    ensures { result ≡ diagnostic_size * total counted }
+{
+    DIAGNOSTIC_SIZE * (counted.errors + counted.warnings) as usize
+}
+
 // The report: what was written early, or all rules once more.
 fn leave_report(
     image: &Image,
@@ -62,7 +76,7 @@ fn leave_report(
     requires { Tallied image.now slots.old counted × (length slots.old ≡ slot_count (model_of image.now)) × Early image.now early.now × (diagnostic_size * total counted ≤ length report.old) }
     ensures { report.new ≡ starts_with (report_bytes (report_of image.now)) report.old }
 {
-    let size = DIAGNOSTIC_SIZE * (counted.errors + counted.warnings);
+    let size = size_of(counted);
     if size <= early.len() {
         copy_at(report, 0, &early[..size]);
     } else {
@@ -77,19 +91,16 @@ fn check_over(image: &Image, slots: &mut [Attrs], filled: &mut [u8], report: &mu
 {
     let mut early = [0u8; EARLY];
     let counted = tally(image, slots, &mut early);
-    let size = DIAGNOSTIC_SIZE * (counted.errors + counted.warnings);
+    let size = size_of(counted);
     if report.len() < size {
-        return Answer::Refused {
-            number: 10,
-            at: size as u32,
-        };
+        return Err(Refusal {
+            number: SHORT_REPORT,
+            offset: size as u32,
+        });
     }
     leave_filled(image, slots, counted, filled);
     leave_report(image, slots, counted, &early, report);
-    Answer::Checked {
-        errors: counted.errors as u32,
-        warnings: counted.warnings as u32,
-    }
+    Ok(counted)
 }
 
 // The same with a table for so many slots.
@@ -108,10 +119,10 @@ fn check_accepted(image: &Image, filled: &mut [u8], report: &mut [u8]) -> Answer
 {
     let size = image.bytes().len();
     if filled.len() < size {
-        return Answer::Refused {
-            number: 9,
-            at: size as u32,
-        };
+        return Err(Refusal {
+            number: SHORT_FILLED,
+            offset: size as u32,
+        });
     }
     if slot_count(image) <= FEW_SLOTS {
         check_in::<FEW_SLOTS>(image, filled, report)
@@ -126,13 +137,8 @@ fn check_any(image: &[u8], filled: &mut [u8], report: &mut [u8]) -> Answer
 {
     let mut texts = [0usize; MOST_TEXTS];
     let mut blocks = [0usize; MOST_BLOCKS];
-    match Image::accept(image, &mut texts, &mut blocks) {
-        Err(refusal) => Answer::Refused {
-            number: refusal.number,
-            at: refusal.at,
-        },
-        Ok(image) => check_accepted(&image, filled, report),
-    }
+    let image = Image::accept(image, &mut texts, &mut blocks)?;
+    check_accepted(&image, filled, report)
 }
 
 // Checks a model image: the report of its diagnostics goes into one buffer, the image with its

@@ -1,32 +1,27 @@
 // A batch of images checked, and its report printed, image by image.
 #![tactic(auto)]
 
-ghost use Rattle.std.specs.Prelude.{◌≡◌, ◌+◌, ◌*◌, ◌<◌, ◌++◌, length, OnOk};
+ghost use Rattle.std.specs.Prelude.{◌≡◌, ◌<◌, ◌++◌, length, OnOk};
 ghost use Rattle.std.specs.Io.KnownBytes.{Appends};
-ghost use Rattle.numbers.specs.Bytes.{word_range};
-ghost use Rattle.oce_diag.specs.Encoding.{diagnostic_size};
 ghost use Rattle.printed.specs.Printed.{first_line};
 ghost use Rattle.batch.specs.Fields.{image_in, images};
-ghost use Rattle.batch.specs.Output.{summary_size};
 ghost use Rattle.batch.specs.Answer.{output_after};
 ghost use Rattle.printed_batch.specs.PrintedBatch.{image_line, refusal_line, image_text, image_texts, printed_batch};
-ghost use Rattle.printed_batch.specs.ReadBack.{count_of};
 ghost use Rattle.print_batch.specs.Printing.{Left, Part};
 ghost use Rattle.print_batch.specs.Reading.{longest_batch, read_output, PrintedAs, SomeRead, PrintedFrom};
 
 use arrayvec::ArrayVec;
 use base::part_of;
-use batch::{BatchAnswer, SUMMARY_SIZE, Summary};
+use batch::{BatchRefusal, SUMMARY_SIZE, count_of, size_of};
 use batch_check::check_batch;
 use batch_framing::image_in;
-use image_framing::{first_field, next_field};
+use image_framing::Fields;
 use oce_diag::DIAGNOSTIC_SIZE;
 use oce_model::Field;
 use outcome::Answer;
 use print_check::{print_report, read_from};
 use printed_batch::{
-    LONGEST_IMAGE_LINES, LONGEST_REFUSAL_LINE, answer_of, count_of, image_lines, refusal_line,
-    summary_in,
+    LONGEST_IMAGE_LINES, LONGEST_REFUSAL_LINE, answer_in, image_lines, refusal_line,
 };
 use std::io;
 use std::io::{Error, ErrorKind, Read, Write};
@@ -43,11 +38,12 @@ const READ_BATCH: usize = LONGEST_BATCH + 1;
 // The bytes that are lent for the output of a batch that is read.
 const READ_OUTPUT: usize = 2097152;
 
-fn print_refusal<W: Write>(to: &mut W, number: u32, at: usize) -> io::Result<()>
-    ensures { OnOk result (Appends (W.contents to.old) (W.contents to.new) (refusal_line number at)) }
+// Prints the line of a refused batch.
+fn print_refusal<W: Write>(to: &mut W, refusal: BatchRefusal) -> io::Result<()>
+    ensures { OnOk result (Appends (W.contents to.old) (W.contents to.new) (refusal_line refusal)) }
 {
     let mut out = ArrayVec::<u8, LONGEST_REFUSAL_LINE>::new();
-    refusal_line(number, at, &mut out);
+    refusal_line(refusal, &mut out);
     to.write_all(&out)
 }
 
@@ -62,20 +58,20 @@ fn print_first<W: Write>(to: &mut W, i: u32, answer: Answer) -> io::Result<()>
     to.write_all(&out)
 }
 
-// Prints the image in a field, whose part of the output begins at o with the summary r.
+// Prints the image in a field, whose part of the output begins at o with its answer.
 fn print_image<W: Write>(
     to: &mut W,
     batch: &[u8],
     f: Field,
     output: &[u8],
     o: usize,
-    r: Summary,
+    answer: Answer,
 ) -> io::Result<()>
-    requires { Part batch.now f output.now o r }
+    requires { Part batch.now f output.now o answer }
     ensures { OnOk result (Appends (W.contents to.old) (W.contents to.new) (image_text f.ord (image_in batch.now f))) }
 {
-    print_first(to, f.ord as u32, answer_of(r))?;
-    let count = count_of(r);
+    print_first(to, f.ord as u32, answer)?;
+    let count = count_of(answer);
     if count == 0 {
         return Ok(());
     }
@@ -85,14 +81,6 @@ fn print_image<W: Write>(
         part_of(output, o + SUMMARY_SIZE, DIAGNOSTIC_SIZE * count),
         count,
     )
-}
-
-// Where that part ends.
-fn part_end(o: usize, r: Summary) -> usize
-    requires { o + summary_size + diagnostic_size * count_of r < word_range }
-    ensures { result ≡ o + summary_size + diagnostic_size * count_of r }
-{
-    o + SUMMARY_SIZE + DIAGNOSTIC_SIZE * count_of(r)
 }
 
 // ---- all of them
@@ -106,13 +94,11 @@ fn print_images<W: Write>(to: &mut W, batch: &[u8], output: &[u8], n: usize) -> 
     if LONG_OUTPUT <= n {
         return Err(Error::from(ErrorKind::FileTooLarge));
     }
-    let mut f = first_field(batch);
     let mut o = 0;
-    while f.at < batch.len() {
-        let r = summary_in(output, o);
-        print_image(to, batch, f, output, o, r)?;
-        o = part_end(o, r);
-        f = next_field(batch, f);
+    for f in Fields::of(batch) {
+        let answer = answer_in(output, o);
+        print_image(to, batch, f, output, o, answer)?;
+        o += size_of(answer);
     }
     Ok(())
 }
@@ -124,8 +110,8 @@ pub fn print_batch<W: Write>(to: &mut W, batch: &[u8], output: &mut [u8]) -> io:
     ensures printed { OnOk result (Appends (W.contents to.old) (W.contents to.new) (printed_batch batch.now (length output.old))) }
 {
     match check_batch(batch, output) {
-        BatchAnswer::Refused { number, at } => print_refusal(to, number, at),
-        BatchAnswer::Written(n) => print_images(to, batch, output, n),
+        Err(refusal) => print_refusal(to, refusal),
+        Ok(n) => print_images(to, batch, output, n),
     }
 }
 

@@ -4,20 +4,20 @@ use native.Mathlib.Omega.{arith}
 use mathlib.Core.Path.{◌≡◌, refl, sym}
 use mathlib.Core.Bool.{Bool, true, false, cond}
 use mathlib.Core.List.{List, [], ◌++◌, append-nil}
-use Rattle.std.specs.Prelude.{Option, Some, None}
+use Rattle.std.specs.Prelude.{Option, Some, None, Ok, Err}
 use lib.Dec.{ltb}
 use lib.ListN.{length}
 use borrow.Author.Tests.{ltb-false}
 use Rattle.base.specs.Lists.{each}
 use Rattle.base.specs.Buffers.{starts_with}
 use Rattle.numbers.specs.Bytes.{byte, byte_range, word_range}
-use Rattle.oce_model.specs.Refusals.{Refusal, refusal}
+use Rattle.oce_model.specs.Refusals.{refusal}
+use Rattle.oce_model.specs.declared.Refusal.{Refusal}
 use Rattle.oce_diag.specs.Diagnostics.{errors, warnings}
 use Rattle.oce_diag.specs.Encoding.{report_bytes}
 use Rattle.oce_diag.proofs.Diagnostics.{errors-warnings}
-use Rattle.outcome.specs.Answer.{report_of, report_size, answer_for, answer, if_checked, report_after}
-use Rattle.outcome.specs.declared.Answer.{Answer}
-use Rattle.outcome.specs.declared.Answer.TheVariants.{Refused, Checked}
+use Rattle.oce_diag.specs.declared.Counted.{Counted}
+use Rattle.outcome.specs.Answer.{Answer, report_of, report_size, answer_for, answer, if_checked, report_after}
 use Rattle.printed.specs.Printed.{first_line, lines_from, printed}
 use Rattle.printed.specs.Pieces.{Row}
 use Rattle.printed.proofs.Row.{row-report}
@@ -35,22 +35,22 @@ no_lines s report = refl
 
 -- what is known of an answer and its report
 pub record Known (s : List ℕ) (a : Answer) (report : List ℕ) : Type 0 where
-  pub accepted : {e w : ℕ} → a ≡ Checked e w → refusal s ≡ None
+  pub accepted : {c : Counted} → a ≡ Ok c → refusal s ≡ None
   pub row : Row report (count_of a)
   pub few : count_of a < word_range
   pub whole : printed s a ≡ first_line a ++ lines_from s report 0 (count_of a)
 
 module _ (s b : List ℕ) (bytes : (i : ℕ) → byte s i < byte_range) (filled room : ℕ) (short : room ≤ longest_report) where
-  turned-away : (n at : ℕ) → Known s (Refused n at) b
+  turned-away : (r : Refusal) → Known s (Err r) b
   unfolding printed
-  turned-away n at = record {
-    accepted = λ e. (let z : ◌≡◌ {A = ℕ} 0 1 = cc in absurd (omega arith));
+  turned-away r = record {
+    accepted = λ e. cc;
     row = none_row b;
     few = omega arith;
-    whole = rw (no_lines s b) (sym (append-nil (first_line (Refused n at))));
+    whole = rw (no_lines s b) (sym (append-nil (first_line (Err r))));
   }
 
-  checked : refusal s ≡ None → report_size (report_of s) ≤ room → Known s (Checked (errors (report_of s)) (warnings (report_of s))) (starts_with (report_bytes (report_of s)) b)
+  checked : refusal s ≡ None → report_size (report_of s) ≤ room → Known s (Ok (record { errors = errors (report_of s); warnings = warnings (report_of s) })) (starts_with (report_bytes (report_of s)) b)
   checked e fits = record {
     accepted = λ _. e;
     row = rw (errors-warnings (report_of s)) (row-report (report_of s) b);
@@ -59,15 +59,21 @@ module _ (s b : List ℕ) (bytes : (i : ℕ) → byte s i < byte_range) (filled 
   }
 
   known-for : (o : Option Refusal) → refusal s ≡ o → Known s (answer_for s filled room o) (if_checked (answer_for s filled room o) (starts_with (report_bytes (report_of s)) b) b)
-  known-for (Some r) e = turned-away r.number r.offset
+  known-for (Some r) e = turned-away r
   known-for None e = arm (ltb filled (length s)) (ltb room (report_size (report_of s))) refl
     where
+      short_filled : Refusal
+      short_filled = record { number = 9; offset = length s }
+
+      short_report : Refusal
+      short_report = record { number = 10; offset = report_size (report_of s) }
+
       a : Bool → Bool → Answer
-      a x y = cond x (Refused 9 (length s)) (cond y (Refused 10 (report_size (report_of s))) (Checked (errors (report_of s)) (warnings (report_of s))))
+      a x y = cond x (Err short_filled) (cond y (Err short_report) (Ok (record { errors = errors (report_of s); warnings = warnings (report_of s) })))
 
       arm : (x y : Bool) → ltb room (report_size (report_of s)) ≡ y → Known s (a x y) (if_checked (a x y) (starts_with (report_bytes (report_of s)) b) b)
-      arm true y q = turned-away 9 (length s)
-      arm false true q = turned-away 10 (report_size (report_of s))
+      arm true y q = turned-away short_filled
+      arm false true q = turned-away short_report
       arm false false q = checked e (ltb-false room (report_size (report_of s)) q)
 
 pub known : {s : List ℕ} {a : Answer} {report : List ℕ} → ((i : ℕ) → byte s i < byte_range) → Reported s a report → Known s a report
@@ -75,6 +81,6 @@ unfolding report_after answer
 known {s} {a} {report} bytes v = rw (v.bytes, v.answer) (known-for s v.lent bytes (length v.filled) (length v.lent) v.short (refusal s) refl)
 
 -- of a refused image there is the first line alone
-pub refused_alone : (s : List ℕ) {a : Answer} {n at : ℕ} → a ≡ Refused n at → printed s a ≡ first_line a
+pub refused_alone : (s : List ℕ) {a : Answer} {r : Refusal} → a ≡ Err r → printed s a ≡ first_line a
 unfolding printed
 refused_alone s e = rw e

@@ -1,8 +1,6 @@
 -- What the printing program leaves in the buffers that it is lent.
-use Rattle.std.specs.Prelude.{ℕ, ◌+◌, ◌≤◌, ◌≡◌, List, length, replicate}
-use Rattle.outcome.specs.Answer.{answer, report_after}
-use Rattle.outcome.specs.declared.Answer.{Answer}
-use Rattle.outcome.specs.declared.Answer.TheVariants.{Refused, Checked}
+use Rattle.std.specs.Prelude.{ℕ, ◌+◌, ◌≤◌, ◌≡◌, List, length, replicate, Ok, Err}
+use Rattle.outcome.specs.Answer.{Answer, answer, report_after}
 
 -- The program lends 65,535 bytes for each buffer (FORMAT 19); the report's are 0 before the call
 abbrev pub longest_report : ℕ
@@ -13,8 +11,8 @@ lent_report = replicate longest_report 0
 
 -- how many diagnostics an answer counts
 abbrev pub count_of : Answer → ℕ
-count_of (Refused number at) = 0
-count_of (Checked errors warnings) = errors + warnings
+count_of (Ok c) = c.errors + c.warnings
+count_of (Err r) = 0
 
 -- a check of the image s answered a, and left that report in a buffer of such a length
 pub record Reported (s : List ℕ) (a : Answer) (report : List ℕ) : Type 0 where

@@ -4,11 +4,10 @@
 ghost use Rattle.std.specs.Prelude.{◌≡◌, ◌<◌, ◌≤◌, length, take, IfOk, OnOk, None};
 ghost use Rattle.std.specs.Io.KnownBytes.{Appends, Consumes};
 ghost use Rattle.numbers.specs.Bytes.{word_range};
-ghost use Rattle.oce_model.specs.Format.{text_tag, longest_image};
+ghost use Rattle.oce_model.specs.Format.{longest_image};
 ghost use Rattle.oce_model.specs.Image.{fields};
 ghost use Rattle.oce_model.specs.Refusals.{refusal};
-ghost use Rattle.image_accept.specs.Layout.{Laid, Tabled};
-ghost use Rattle.outcome.specs.Answer.{answer, filled_after, report_after};
+ghost use Rattle.outcome.specs.Answer.{answer, filled_after};
 ghost use Rattle.printed.specs.Pieces.{Row};
 ghost use Rattle.printed.specs.Printed.{first_line, lines_from, printed};
 ghost use Rattle.field_lines.specs.Lines.{field_lines};
@@ -16,7 +15,7 @@ ghost use Rattle.print_check.specs.Outcome.{longest_report, lent_report, Reporte
 
 use arrayvec::ArrayVec;
 use field_lines::put_fields;
-use image_accept::{Acceptance, Layout, accept};
+use image_records::Image;
 use oce_model::{LONGEST_IMAGE, MOST_BLOCKS, MOST_TEXTS};
 use oce_validate::check;
 use outcome::Answer;
@@ -24,7 +23,7 @@ use printed::{LONGEST_FIRST_LINE, first_line, put_lines};
 use std::fs::Files;
 use std::io;
 use std::io::{Error, ErrorKind, Read, Write};
-use streams::{Stop, fail, open_read, read_full};
+use streams::{fail, open_read, read_full};
 
 // The bytes of a piece.
 const PIECE: usize = 65536;
@@ -35,26 +34,25 @@ const LONGEST_REPORT: usize = 65535;
 // Prints the lines of a report's diagnostics, as many as count says.
 pub fn print_lines<W: Write>(
     to: &mut W,
-    image: &[u8],
-    layout: Layout,
-    texts: &[usize; MOST_TEXTS],
+    image: &Image,
     report: &[u8],
     count: usize,
 ) -> io::Result<()>
-    requires { Laid image.now layout × Tabled text_tag image.now texts.now × (count < word_range) × Row report.now count }
+    requires { (count < word_range) × Row report.now count }
     ensures { OnOk result (Appends (W.contents to.old) (W.contents to.new) (lines_from image.now report.now 0 count)) }
 {
     let mut out = ArrayVec::<u8, PIECE>::new();
     let mut next = 0;
     while next < count {
-        next = put_lines(image, layout, texts, report, next, count, &mut out);
+        next = put_lines(image, report, next, count, &mut out);
         to.write_all(&out)?;
         out.clear();
     }
     Ok(())
 }
 
-// The same for an image that is accepted. Inlined, so that a single check needs no more of the stack.
+// The same for the bytes of an image to which no refusal applies; it is accepted once for all lines. Inlined, so that
+// a single check needs no more of the stack.
 #[inline(always)]
 pub fn print_report<W: Write>(
     to: &mut W,
@@ -67,9 +65,9 @@ pub fn print_report<W: Write>(
 {
     let mut texts = [0usize; MOST_TEXTS];
     let mut blocks = [0usize; MOST_BLOCKS];
-    match accept(image, &mut texts, &mut blocks) {
-        Acceptance::Refused { .. } => unreachable!(),
-        Acceptance::Accepted(layout) => print_lines(to, image, layout, &texts, report, count),
+    match Image::accept(image, &mut texts, &mut blocks) {
+        Ok(image) => print_lines(to, &image, report, count),
+        Err(_) => unreachable!(),
     }
 }
 
@@ -88,13 +86,13 @@ fn print_all<W: Write>(to: &mut W, image: &[u8], report: &[u8], answer: Answer) 
 {
     print_first(to, answer)?;
     match answer {
-        Answer::Refused { .. } => Ok(()),
-        Answer::Checked { errors, warnings } => print_report(
+        Ok(counted) => print_report(
             to,
             image,
             report,
-            errors as usize + warnings as usize,
+            counted.errors as usize + counted.warnings as usize,
         ),
+        Err(_) => Ok(()),
     }
 }
 
@@ -105,23 +103,15 @@ pub struct Outcome {
     pub printed: io::Result<()>,
 }
 
-// The check, with what it leaves in both buffers.
-fn check_lent(image: &[u8], filled: &mut [u8], report: &mut [u8]) -> Answer
-    ensures answer { result ≡ answer image.now (length filled.old) (length report.old) }
-    ensures filled { filled.new ≡ filled_after image.now filled.old report.old }
-    ensures report { report.new ≡ report_after image.now filled.old report.old }
-{
-    check(image, filled, report)
-}
-
 // Checks an image and prints its report; filled gets the filled image, where there is no refusal.
+#[tactic(auto, unfolding(crate::specs::Outcome::lent_report))]
 pub fn print_check<W: Write>(to: &mut W, image: &[u8], filled: &mut [u8]) -> Outcome
     ensures answer { result.answer ≡ answer image.now (length filled.old) longest_report }
     ensures filled { filled.new ≡ filled_after image.now filled.old lent_report }
     ensures printed { OnOk result.printed (Appends (W.contents to.old) (W.contents to.new) (printed image.now result.answer)) }
 {
     let mut report = [0u8; LONGEST_REPORT];
-    let answer = check_lent(image, filled, &mut report);
+    let answer = check(image, filled, &mut report);
     Outcome {
         answer,
         printed: print_all(to, image, &report, answer),
@@ -154,8 +144,8 @@ pub fn read_from<R: Read>(from: &mut R, image: &mut [u8]) -> io::Result<usize>
     ensures bytes { IfOk result (λ n. Consumes (R.remaining from.old) (R.remaining from.new) (take n image.new)) }
 {
     let front = read_full(from, image);
-    match front.stop {
-        Stop::Failed(why) if front.length == 0 => Err(why),
+    match front.ended {
+        Err(why) if front.length == 0 => Err(why),
         _ => Ok(front.length),
     }
 }

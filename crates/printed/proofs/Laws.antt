@@ -2,40 +2,35 @@
 use Prim.Native.Nat.{ℕ, ◌+◌, ◌-◌, ◌≤◌, ◌<◌}
 use native.Mathlib.Decide.{dec_lt}
 use native.Mathlib.Omega.{arith}
-use mathlib.Core.Path.{◌≡◌, sym, ◌∙◌}
-use mathlib.Core.Bool.{Bool, true, false, cond}
+use mathlib.Core.Path.{◌≡◌, refl, sym, ◌∙◌}
+use mathlib.Core.Bool.{cond}
 use mathlib.Core.List.{List, ◌++◌, append-nil, append_assoc}
 use lib.Dec.{eqb}
 use lib.ListN.{length}
 use Rattle.base.specs.Lists.{each}
-use Rattle.base.specs.Buffers.{starts_with}
 use Rattle.base.proofs.Lists.{each_next}
 use Rattle.oce_model.specs.Format.{longest_text}
 use Rattle.oce_model.specs.Model.{model_of, text}
 use Rattle.image_accept.specs.Layout.{Laid}
 use Rattle.image_accept.specs.declared.Layout.{Layout}
 use Rattle.oce_diag.specs.Encoding.{text_subject_kind}
-use Rattle.subject.specs.Subject.{least_scratch, labelled, if_room, part_of, subject_text}
+use Rattle.subject.specs.Subject.{labelled, subject_text}
 use Rattle.image_texts.proofs.Places.{text-short}
-use Rattle.subject.proofs.Laws.{labelled-few, accepted-written}
 use Rattle.oce_diag.specs.Decoded.{diagnostic_at}
 use Rattle.printed.specs.Printed.{line, lines_from, longest_line}
 use Rattle.printed.specs.Pieces.{Pieced}
 
 -- ---- subjects
 
--- no subject's text is longer than the longest text
-pub text_few : {s : List ℕ} {l : Layout} → Laid s l → (kind i : ℕ) → length (subject_text s kind i) ≤ longest_text
-unfolding subject_text
-text_few {s} h kind i = rw h.accepted (arm (eqb kind text_subject_kind))
-  where
-    arm : (b : Bool) → length (cond b (text (model_of s) i) (labelled kind i)) ≤ longest_text
-    arm true = text-short h i
-    arm false = omega (arith, labelled-few kind i)
+module _ {s : List ℕ} {l : Layout} (h : Laid s l) where
+  -- no text of an accepted image is longer than the longest
+  pub text_few : (i : ℕ) → length (text (model_of s) i) ≤ longest_text
+  text_few i = text-short h i
 
--- the part that is handed out, behind a label that was written to a scratch, is a subject's text
-pub text_is : {s : List ℕ} {l : Layout} (xs ys : List ℕ) (kind i : ℕ) → Laid s l → ys ≡ starts_with (if_room xs (labelled kind i)) xs → least_scratch ≤ length xs → part_of s ys kind i ≡ subject_text s kind i
-text_is {s} xs ys kind i h w n = accepted-written s xs kind i n h w
+  -- a subject's text is one of the image, or a label
+  pub subject_is : (kind i : ℕ) → subject_text s kind i ≡ cond (eqb kind text_subject_kind) (text (model_of s) i) (labelled kind i)
+  unfolding subject_text
+  subject_is kind i = rw h.accepted refl
 
 -- ---- the lines of diagnostics
 
@@ -72,7 +67,3 @@ module _ {s report : List ℕ} {from : ℕ} {b b' : List ℕ} {i : ℕ} (v : Pri
       arm : Dec (from < i) → length b + longest_line ≤ room → from < i
       arm (yes p) r = p
       arm (no p) r = let f = v.forward in let e : i ≡ from = omega arith in let n = none_yet e in absurd (omega arith)
-
-  -- all of them
-  pub printing_end : {count room : ℕ} → i ≡ count → Pieced s report from count room b b' count
-  printing_end e = record { forward = rw (← e) v.forward; within = omega arith; bytes = rw (← e) v.bytes; moves = λ h _. h }

@@ -4,7 +4,7 @@ use native.Mathlib.Nat.{zero-add, add_assoc}
 use native.Mathlib.Omega.{arith}
 use mathlib.Core.Path.{◌≡◌, refl, sym, ap, ◌∙◌}
 use mathlib.Core.List.{List, [], ◌∷◌, ◌++◌}
-use Rattle.std.specs.Prelude.{None}
+use Rattle.std.specs.Prelude.{None, Ok}
 use lib.ListN.{length, get_or, drop}
 use Rattle.base.specs.Lists.{each}
 use Rattle.base.specs.Buffers.{starts_with}
@@ -18,8 +18,7 @@ use Rattle.oce_diag.proofs.Diagnostics.{errors-warnings}
 use Rattle.oce_diag.specs.Decoded.{diagnostic_at, AllFitting}
 use Rattle.oce_diag.proofs.Decoded.{report-back}
 use Rattle.printed.proofs.Rules.{report_of-fits}
-use Rattle.outcome.specs.Answer.{report_of}
-use Rattle.outcome.specs.declared.Answer.TheVariants.{Checked}
+use Rattle.outcome.specs.Answer.{Answer, report_of}
 use Rattle.printed.specs.Printed.{line, lines, first_line, printed, lines_from}
 
 -- one piece behind another
@@ -67,7 +66,7 @@ lines-whole s ds b f =
 -- all that is printed for an accepted image: the first line, and the lines of as many diagnostics as were counted, from the report that a check leaves
 pub printed-whole : (s b : List ℕ) → ((i : ℕ) → byte s i < byte_range) → refusal s ≡ None
     → let ds = report_of s in
-    let a = Checked (errors ds) (warnings ds) in
+    let a : Answer = Ok (record { errors = errors ds; warnings = warnings ds }) in
     printed s a ≡ first_line a ++ lines_from s (starts_with (report_bytes ds) b) 0 (errors ds + warnings ds)
 unfolding printed
 printed-whole s b f h = rw (errors-warnings (report_of s), lines-whole s (report_of s) b (report_of-fits s f h))

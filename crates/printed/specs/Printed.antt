@@ -1,5 +1,5 @@
 -- The printed report, FORMAT 19.
-use Rattle.std.specs.Prelude.{ℕ, ◌+◌, List, [], ◌∷◌, ◌++◌, length}
+use Rattle.std.specs.Prelude.{ℕ, ◌+◌, List, [], ◌∷◌, ◌++◌, length, Ok, Err}
 use Rattle.base.specs.Lists.{each}
 use Rattle.oce_model.specs.Format.{longest_text}
 use Rattle.oce_diag.specs.declared.Severity.{Severity}
@@ -13,9 +13,7 @@ use Rattle.decimal.specs.Decimal.{decimal, most_digits, most_byte_digits}
 use Rattle.oce_diag.specs.Encoding.{text_subject_kind, connector_subject_kind, block_subject_kind}
 use Rattle.subject.specs.Subject.{subject_text}
 use Rattle.oce_diag.specs.Decoded.{diagnostic_at}
-use Rattle.outcome.specs.Answer.{report_of}
-use Rattle.outcome.specs.declared.Answer.{Answer}
-use Rattle.outcome.specs.declared.Answer.TheVariants.{Refused, Checked}
+use Rattle.outcome.specs.Answer.{Answer, report_of}
 
 -- ---- words and signs as bytes
 
@@ -90,13 +88,13 @@ lines s (d ∷ ds) = line s d ++ lines s ds
 
 -- the first line: the counts, or a refusal's number and offset, and then no other line
 unfoldable pub first_line : Answer → List ℕ
-first_line (Checked e w) = (errors_label ++ decimal e) ++ (warnings_label ++ decimal w) ++ newline
-first_line (Refused number at) = (refused_label ++ decimal number) ++ (at_label ++ decimal at) ++ newline
+first_line (Ok c) = (errors_label ++ decimal c.errors) ++ (warnings_label ++ decimal c.warnings) ++ newline
+first_line (Err r) = (refused_label ++ decimal r.number) ++ (at_label ++ decimal r.offset) ++ newline
 
 -- all that is printed for an image and its answer
 unfoldable pub printed : List ℕ → Answer → List ℕ
-printed s (Checked e w) = first_line (Checked e w) ++ lines s (report_of s)
-printed s (Refused number at) = first_line (Refused number at)
+printed s (Ok c) = first_line (Ok c) ++ lines s (report_of s)
+printed s (Err r) = first_line (Err r)
 
 -- the lines of k diagnostics of a report's bytes, from the one with number `from` on
 unfoldable pub lines_from : List ℕ → List ℕ → ℕ → ℕ → List ℕ

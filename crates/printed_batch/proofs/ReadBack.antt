@@ -1,11 +1,10 @@
--- A summary read back from an output is the one that was written there, and stands for the answer of a single call with the room that the image needs.
-use Prim.Native.Nat.{ℕ, zero, suc, ◌+◌, ◌*◌, ◌<◌, ◌≤◌}
+-- An answer read back from an output is the one that was written there, that of a single call with the room that the image needs.
+use Prim.Native.Nat.{ℕ, zero, suc, ◌+◌, ◌<◌, ◌≤◌}
 use native.Mathlib.Omega.{arith}
 use mathlib.Core.Path.{◌≡◌, refl, sym, ◌∙◌}
-use mathlib.Core.Logic.{◌≢◌}
 use mathlib.Core.Bool.{Bool, true, false, cond, ◌||◌}
 use mathlib.Core.List.{List, [], ◌∷◌, ◌++◌}
-use Rattle.std.specs.Prelude.{Option, Some, None}
+use Rattle.std.specs.Prelude.{Option, Some, None, Ok, Err}
 use lib.Dec.{leb, ltb}
 use lib.ListN.{length, drop}
 use lib.Seq.{get_or-drop}
@@ -16,63 +15,59 @@ use Rattle.numbers.proofs.Bytes.{le_same, le-append-right, le-bytes}
 use Rattle.oce_model.specs.Format.{text_tag, shortest_image, longest_image}
 use Rattle.oce_model.specs.Image.{field_end, field_at, ord_of, fields_from, fields, stop, of_tag, first}
 use Rattle.oce_model.specs.declared.Field.{Field}
-use Rattle.oce_model.specs.Refusals.{Refusal, fault, refused_at, refusals_from, refusal}
-use Rattle.oce_diag.specs.Encoding.{diagnostic_size}
-use Rattle.outcome.specs.Answer.{report_of, report_size, answer_for, answer}
-use Rattle.batch.specs.Output.{summary_tag, summary_length, summary_size, summary_by, summary_of, summary_bytes, image_output, refusal_place, at_place, errors_place, warnings_place}
-use Rattle.batch.specs.declared.Summary.{Summary}
+use Rattle.oce_model.specs.Refusals.{fault, refused_at, refusals_from, refusal}
+use Rattle.oce_model.specs.declared.Refusal.{Refusal}
+use Rattle.oce_diag.specs.declared.Counted.{Counted}
+use Rattle.outcome.specs.Answer.{Answer, report_of, report_size, answer_for, answer}
+use Rattle.batch.specs.Output.{summary_tag, summary_length, size_of, no_refusal, none_counted, summary_by, summary_of, summary_field, summary_bytes, image_output, refusal_place, offset_place, errors_place, warnings_place}
 use Rattle.batch.proofs.Sizes.{output-long}
 use Rattle.printed_batch.specs.PrintedBatch.{answer_alone}
-use Rattle.printed_batch.specs.ReadBack.{summary_in, Fitting, answer_of, count_of}
+use Rattle.printed_batch.specs.ReadBack.{answer_in, SmallRefusal, Fitting}
 
--- ---- the bytes of a summary
+-- ---- the bytes of an answer's field
 
 -- those in front of each number
-before_at : Summary → List ℕ
-before_at r = summary_tag ∷ le_bytes 2 summary_length ++ le_bytes 1 r.refusal
+before-offset : Refusal → List ℕ
+before-offset r = summary_tag ∷ le_bytes 2 summary_length ++ le_bytes 1 r.number
 
-before-errors : Summary → List ℕ
-before-errors r = before_at r ++ le_bytes 4 r.at
+before-errors : Refusal → List ℕ
+before-errors r = before-offset r ++ le_bytes 4 r.offset
 
-before-warnings : Summary → List ℕ
-before-warnings r = before-errors r ++ le_bytes 4 r.errors
+before-warnings : Refusal → Counted → List ℕ
+before-warnings r c = before-errors r ++ le_bytes 4 c.errors
 
-module _ (r : Summary) (b : List ℕ) (f : Fitting r) where
-  refusal-back : byte (summary_bytes r ++ b) refusal_place ≡ r.refusal
-  unfolding summary_bytes le_bytes
-  refusal-back = let h = f.refusal in omega arith
+module _ (r : Refusal) (c : Counted) (b : List ℕ) where
+  number-back : r.number < byte_range → byte (summary_field r c ++ b) refusal_place ≡ r.number
+  unfolding summary_field le_bytes
+  number-back h = omega arith
 
-  at_back : le32 (summary_bytes r ++ b) at_place ≡ r.at
-  unfolding summary_bytes before_at le_bytes
-  at_back = le-append-right 4 (before_at r) (le_bytes 4 r.at ++ (le_bytes 4 r.errors ++ (le_bytes 4 r.warnings ++ b))) 0 ∙ le-bytes 4 r.at _ f.at
+  offset-back : r.offset < word_range → le32 (summary_field r c ++ b) offset_place ≡ r.offset
+  unfolding summary_field before-offset le_bytes
+  offset-back h = le-append-right 4 (before-offset r) (le_bytes 4 r.offset ++ (le_bytes 4 c.errors ++ (le_bytes 4 c.warnings ++ b))) 0 ∙ le-bytes 4 r.offset _ h
 
-  errors-back : le32 (summary_bytes r ++ b) errors_place ≡ r.errors
-  unfolding summary_bytes before-errors before_at le_bytes
-  errors-back = le-append-right 4 (before-errors r) (le_bytes 4 r.errors ++ (le_bytes 4 r.warnings ++ b)) 0 ∙ le-bytes 4 r.errors _ f.errors
+  errors-back : c.errors < word_range → le32 (summary_field r c ++ b) errors_place ≡ c.errors
+  unfolding summary_field before-errors before-offset le_bytes
+  errors-back h = le-append-right 4 (before-errors r) (le_bytes 4 c.errors ++ (le_bytes 4 c.warnings ++ b)) 0 ∙ le-bytes 4 c.errors _ h
 
-  warnings-back : le32 (summary_bytes r ++ b) warnings_place ≡ r.warnings
-  unfolding summary_bytes before-warnings before-errors before_at le_bytes
-  warnings-back = le-append-right 4 (before-warnings r) (le_bytes 4 r.warnings ++ b) 0 ∙ le-bytes 4 r.warnings b f.warnings
+  warnings-back : c.warnings < word_range → le32 (summary_field r c ++ b) warnings_place ≡ c.warnings
+  unfolding summary_field before-warnings before-errors before-offset le_bytes
+  warnings-back h = le-append-right 4 (before-warnings r c) (le_bytes 4 c.warnings ++ b) 0 ∙ le-bytes 4 c.warnings b h
 
-  -- reading them gives the summary back
-  pub summary-back : summary_in (summary_bytes r ++ b) 0 ≡ r
-  unfolding summary_in
-  summary-back = rw (refusal-back, at_back, errors-back, warnings-back)
+-- reading them gives the answer back
+pub answer-back : (a : Answer) (b : List ℕ) → Fitting a → answer_in (summary_bytes a ++ b) 0 ≡ a
+unfolding answer_in
+answer-back (Err r) b f = rw (number-back r none_counted b f.few, ne_eqb r.number 0 f.positive, offset-back r none_counted b f.near)
+answer-back (Ok c) b f = rw (number-back no_refusal c b (omega arith), errors-back no_refusal c b f.0, warnings-back no_refusal c b f.1)
 
 -- an offset of an output, and the start of what is left from there on
-pub summary-there : (b : List ℕ) (o : ℕ) → summary_in b o ≡ summary_in (drop o b) 0
-unfolding summary_in
-summary-there b o = rw (sym (get_or-drop o b refusal_place 0), number at_place, number errors_place, number warnings_place)
+pub answer-there : (b : List ℕ) (o : ℕ) → answer_in b o ≡ answer_in (drop o b) 0
+unfolding answer_in
+answer-there b o = rw (sym (get_or-drop o b refusal_place 0), number offset_place, number errors_place, number warnings_place)
   where
     number : (k : ℕ) → le32 b (o + k) ≡ le32 (drop o b) k
     number k = le_same 4 b (drop o b) (o + k) k (λ i h. (let e : o + k + i ≡ o + (k + i) = omega arith in rw e (sym (get_or-drop o b (k + i) 0))))
 
 -- ---- refusals of an image: a number from 1 to 8, and an offset that an image can have
-
-pub record Small (r : Refusal) : Type 0 where
-  pub positive : r.number ≢ 0
-  pub few : r.number < byte_range
-  pub near : r.offset < word_range
 
 -- a field that is found begins in the image
 first-within : (p : Field → Bool) (k : ℕ) (s : List ℕ) (at prev n x : ℕ) → first p (fields_from k s at prev n) ≡ Some x → x ≤ length s
@@ -99,7 +94,7 @@ first-within p (suc k) s at prev n x h =
     arm false e h ih = let z : ◌≡◌ {A = ℕ} 0 1 = cc in absurd (omega arith)
 
 -- the refusals from k on
-from-small : (j k : ℕ) (s : List ℕ) (r : Refusal) → 0 < k → j + k < 10 → length s ≤ longest_image → refusals_from j k s (fields s) ≡ Some r → Small r
+from-small : (j k : ℕ) (s : List ℕ) (r : Refusal) → 0 < k → j + k < 10 → length s ≤ longest_image → refusals_from j k s (fields s) ≡ Some r → SmallRefusal r
 unfolding refusals_from fields
 from-small zero k s r a b l h = let z : ◌≡◌ {A = ℕ} 0 1 = cc in absurd (omega arith)
 from-small (suc j) k s r a b l h =
@@ -108,7 +103,7 @@ from-small (suc j) k s r a b l h =
     p : Field → Bool
     p = fault k (length (of_tag text_tag (fields s))) s
 
-    arm : (o : Option ℕ) → first p (fields s) ≡ o → refused_at k o (refusals_from j (suc k) s (fields s)) ≡ Some r → (refusals_from j (suc k) s (fields s) ≡ Some r → Small r) → Small r
+    arm : (o : Option ℕ) → first p (fields s) ≡ o → refused_at k o (refusals_from j (suc k) s (fields s)) ≡ Some r → (refusals_from j (suc k) s (fields s) ≡ Some r → SmallRefusal r) → SmallRefusal r
     arm None e h ih = ih h
     arm (Some x) e h ih =
         let n : k ≡ r.number = cc in
@@ -116,14 +111,14 @@ from-small (suc j) k s r a b l h =
         let w : x ≤ length s = first-within p (length s) s 0 0 0 x e in
         record { positive = λ z. omega arith; few = omega arith; near = omega arith }
 
-pub refusal-small : (s : List ℕ) (r : Refusal) → refusal s ≡ Some r → Small r
+pub refusal-small : (s : List ℕ) (r : Refusal) → refusal s ≡ Some r → SmallRefusal r
 unfolding refusal
 refusal-small s r h = size (ltb (length s) shortest_image || ltb longest_image (length s)) refl h
   where
     rest : Option Refusal
     rest = refusals_from 6 3 s (fields s)
 
-    past : (b : Bool) → ltb (stop s) (length s) ≡ b → length s ≤ longest_image → cond b (Some (record { number = 2; offset = stop s })) rest ≡ Some r → Small r
+    past : (b : Bool) → ltb (stop s) (length s) ≡ b → length s ≤ longest_image → cond b (Some (record { number = 2; offset = stop s })) rest ≡ Some r → SmallRefusal r
     past true e l h =
         let n : 2 ≡ r.number = cc in
         let m : stop s ≡ r.offset = cc in
@@ -131,14 +126,14 @@ refusal-small s r h = size (ltb (length s) shortest_image || ltb longest_image (
         record { positive = λ z. omega arith; few = omega arith; near = omega arith }
     past false e l h = from-small 6 3 s r (omega arith) (omega arith) l h
 
-    size : (b : Bool) → (ltb (length s) shortest_image || ltb longest_image (length s)) ≡ b → cond b (Some (record { number = 1; offset = 0 })) (cond (ltb (stop s) (length s)) (Some (record { number = 2; offset = stop s })) rest) ≡ Some r → Small r
+    size : (b : Bool) → (ltb (length s) shortest_image || ltb longest_image (length s)) ≡ b → cond b (Some (record { number = 1; offset = 0 })) (cond (ltb (stop s) (length s)) (Some (record { number = 2; offset = stop s })) rest) ≡ Some r → SmallRefusal r
     size true e h =
         let n : 1 ≡ r.number = cc in
         let m : 0 ≡ r.offset = cc in
         record { positive = λ z. omega arith; few = omega arith; near = omega arith }
     size false e h = past (ltb (stop s) (length s)) refl (ltb-false longest_image (length s) (or_parts (ltb (length s) shortest_image) (ltb longest_image (length s)) e).1) h
 
--- ---- the summary of an image
+-- ---- what sums up an image
 
 -- its numbers have room where its part of the output is shorter than a number of four bytes
 module _ (t : List ℕ) where
@@ -146,15 +141,15 @@ module _ (t : List ℕ) where
   unfolding summary_of
   summary-fits l = arm (refusal t) refl (rw (output-long t) at l)
     where
-      arm : (o : Option Refusal) → refusal t ≡ o → summary_size + diagnostic_size * count_of (summary_by t o) < word_range → Fitting (summary_by t o)
-      arm None e l = record { refusal = omega arith; at = omega arith; errors = omega arith; warnings = omega arith }
-      arm (Some r) e l = let v = refusal-small t r e in record { refusal = v.few; at = v.near; errors = omega arith; warnings = omega arith }
+      arm : (o : Option Refusal) → refusal t ≡ o → size_of (summary_by t o) < word_range → Fitting (summary_by t o)
+      arm None e l = (omega arith, omega arith)
+      arm (Some r) e l = refusal-small t r e
 
-  -- it stands for the answer of a single call with the room that the image needs
-  pub answer-single : answer_of (summary_of t) ≡ answer_alone t
-  unfolding answer_of summary_of answer
-  answer-single = arm (refusal t) refl
+  -- it is the answer of a single call with the room that the image needs
+  pub answer-single : summary_of t ≡ answer_alone t
+  unfolding summary_of answer
+  answer-single = arm (refusal t)
     where
-      arm : (o : Option Refusal) → refusal t ≡ o → answer_of (summary_by t o) ≡ answer_for t (length t) (report_size (report_of t)) o
-      arm None e = rw (le-ltb (length t) (length t) (omega arith), le-ltb (report_size (report_of t)) (report_size (report_of t)) (omega arith))
-      arm (Some r) e = rw (ne_eqb r.number 0 (refusal-small t r e).positive)
+      arm : (o : Option Refusal) → summary_by t o ≡ answer_for t (length t) (report_size (report_of t)) o
+      arm None = rw (le-ltb (length t) (length t) (omega arith), le-ltb (report_size (report_of t)) (report_size (report_of t)) (omega arith))
+      arm (Some r) = refl

@@ -1,4 +1,4 @@
--- What is printed for a batch; summaries read back from its output, and what is printed of them; examples.
+-- What is printed for a batch; answers read back from its output, and what is printed of them; examples.
 pub mod PrintedBatch
 pub mod ReadBack
 pub mod Examples

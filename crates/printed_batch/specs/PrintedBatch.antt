@@ -1,13 +1,11 @@
 -- What is printed for a batch of images. FORMAT 23.
-use Rattle.std.specs.Prelude.{ℕ, ◌+◌, List, [], ◌∷◌, ◌++◌, length}
+use Rattle.std.specs.Prelude.{ℕ, ◌+◌, List, [], ◌∷◌, ◌++◌, length, Ok, Err}
 use Rattle.decimal.specs.Decimal.{decimal, wide_decimal, most_digits, most_wide_digits}
-use Rattle.outcome.specs.Answer.{report_of, report_size, answer}
-use Rattle.outcome.specs.declared.Answer.{Answer}
+use Rattle.outcome.specs.Answer.{Answer, report_of, report_size, answer}
 use Rattle.printed.specs.Printed.{newline, refused_label, at_label, printed, longest_first_line}
 use Rattle.batch.specs.Fields.{images}
-use Rattle.batch.specs.Answer.{batch_answer}
-use Rattle.batch.specs.declared.BatchAnswer.{BatchAnswer}
-use Rattle.batch.specs.declared.BatchAnswer.TheVariants.{Refused, Written}
+use Rattle.batch.specs.Answer.{BatchAnswer, batch_answer}
+use Rattle.batch.specs.declared.BatchRefusal.{BatchRefusal}
 
 -- ---- lines
 
@@ -20,8 +18,8 @@ unfoldable pub image_line : ℕ → List ℕ
 image_line i = (image_label ++ decimal i) ++ newline
 
 -- the line of a refused batch: number and offset, or the bytes needed, which may be more than four bytes hold
-unfoldable pub refusal_line : ℕ → ℕ → List ℕ
-refusal_line number at = (refused_label ++ decimal number) ++ (at_label ++ wide_decimal at) ++ newline
+unfoldable pub refusal_line : BatchRefusal → List ℕ
+refusal_line r = (refused_label ++ decimal r.number) ++ (at_label ++ wide_decimal r.offset) ++ newline
 
 -- ---- texts
 
@@ -40,8 +38,8 @@ image_texts i (t ∷ ts) = image_text i t ++ image_texts (i + 1) ts
 
 -- the refusal's line alone, or the text of each image
 abbrev pub printed_for : List ℕ → BatchAnswer → List ℕ
-printed_for s (Refused number at) = refusal_line number at
-printed_for s (Written n) = image_texts 0 (images s)
+printed_for s (Err r) = refusal_line r
+printed_for s (Ok n) = image_texts 0 (images s)
 
 -- all that is printed for a batch; the number is the length of the output buffer
 unfoldable pub printed_batch : List ℕ → ℕ → List ℕ

@@ -1,18 +1,20 @@
-// The lines that are printed for a batch, put behind those of a text that has room for them; and summaries read back from its output.
+// The lines that are printed for a batch, put behind those of a text that has room for them; and answers read back from its output.
 #![tactic(auto)]
 
 ghost use Rattle.std.specs.Prelude.{◌≡◌, ◌++◌, ◌+◌, ◌<◌, ◌≤◌};
 ghost use Rattle.arrayvec.specs.ArrayVec.{array_vec_len};
-ghost use Rattle.numbers.specs.Bytes.{long_range, word_range};
+ghost use Rattle.numbers.specs.Bytes.{long_range};
 ghost use Rattle.batch.specs.Output.{summary_size};
 ghost use Rattle.printed.specs.Printed.{first_line};
 ghost use Rattle.printed_batch.specs.PrintedBatch.{image_line, refusal_line, longest_image_lines, longest_refusal_line};
-ghost use Rattle.printed_batch.specs.ReadBack.{summary_in, answer_of, count_of};
+ghost use Rattle.printed_batch.specs.ReadBack.{answer_in};
 
 use arrayvec::ArrayVec;
-use batch::{AT_PLACE, ERRORS_PLACE, REFUSAL_PLACE, Summary, WARNINGS_PLACE};
+use batch::{BatchRefusal, ERRORS_PLACE, OFFSET_PLACE, REFUSAL_PLACE, WARNINGS_PLACE};
 use decimal::{put_bytes, put_labelled};
-use numbers::{at32, byte_at};
+use numbers::{LittleEndian, byte_at};
+use oce_diag::Counted;
+use oce_model::Refusal;
 use outcome::Answer;
 use printed::first_line;
 
@@ -37,51 +39,32 @@ pub fn image_lines<const CAP: usize>(i: u32, answer: Answer, out: &mut ArrayVec<
 
 // The line of a refused batch.
 #[tactic(auto, unfolding(crate::specs::PrintedBatch::refusal_line))]
-pub fn refusal_line<const CAP: usize>(number: u32, at: usize, out: &mut ArrayVec<u8, CAP>)
+pub fn refusal_line<const CAP: usize>(refusal: BatchRefusal, out: &mut ArrayVec<u8, CAP>)
     requires { array_vec_len out.old + longest_refusal_line ≤ CAP }
-    ensures { out.new.items ≡ out.old.items ++ refusal_line number at }
+    ensures { out.new.items ≡ out.old.items ++ refusal_line refusal }
 {
-    put_labelled(out, b"refused ", number);
-    put_labelled(out, b" at ", at as u64);
+    put_labelled(out, b"refused ", refusal.number);
+    put_labelled(out, b" at ", refusal.offset as u64);
     put_bytes(out, b"\n");
 }
 
-// ---- summaries
+// ---- answers
 
-// The summary whose field begins at an offset of an output.
-#[tactic(auto, unfolding(crate::specs::ReadBack::summary_in))]
-pub fn summary_in(output: &[u8], o: usize) -> Summary
+// The answer for an image, whose field begins at an offset of an output: number 0 is no refusal.
+#[tactic(auto, unfolding(crate::specs::ReadBack::answer_in))]
+pub fn answer_in(output: &[u8], o: usize) -> Answer
     requires { o + summary_size < long_range }
-    ensures { result ≡ summary_in output.now o }
+    ensures { result ≡ answer_in output.now o }
 {
-    Summary {
-        refusal: byte_at(output, o + REFUSAL_PLACE) as u32,
-        at: at32(output, o + AT_PLACE) as u32,
-        errors: at32(output, o + ERRORS_PLACE) as u32,
-        warnings: at32(output, o + WARNINGS_PLACE) as u32,
+    let number = byte_at(output, o + REFUSAL_PLACE);
+    if number == 0 {
+        return Ok(Counted {
+            errors: u32::read_padded(output, o + ERRORS_PLACE),
+            warnings: u32::read_padded(output, o + WARNINGS_PLACE),
+        });
     }
-}
-
-// The answer that a summary stands for.
-#[tactic(auto, unfolding(crate::specs::ReadBack::answer_of))]
-pub fn answer_of(r: Summary) -> Answer
-    ensures { result ≡ answer_of r }
-{
-    if r.refusal == 0 {
-        return Answer::Checked {
-            errors: r.errors,
-            warnings: r.warnings,
-        };
-    }
-    Answer::Refused {
-        number: r.refusal,
-        at: r.at,
-    }
-}
-
-// How many diagnostics it counts.
-pub fn count_of(r: Summary) -> usize
-    ensures { (result ≡ count_of r) × (result < word_range + word_range) }
-{
-    r.errors as usize + r.warnings as usize
+    Err(Refusal {
+        number: number as u32,
+        offset: u32::read_padded(output, o + OFFSET_PLACE),
+    })
 }

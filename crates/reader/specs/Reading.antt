@@ -3,6 +3,7 @@ use Rattle.std.specs.Prelude.{ℕ, ◌≡◌, Bool, cond, leb, List, length, Opt
 use Rattle.oce_model.specs.Image.{field_end}
 use Rattle.image_framing.specs.Walk.{leading_at}
 use Rattle.reader.specs.declared.Found.{Found}
+use Rattle.reader.specs.declared.Reader.{Reader}
 
 -- a whole field stands there
 abbrev pub whole : List ℕ → ℕ → Bool
@@ -15,8 +16,8 @@ found_at s at = cond (whole s at) (Some (record { at = at; tag = (leading_at s a
 abbrev pub after_at : List ℕ → ℕ → ℕ
 after_at s at = cond (whole s at) (field_end s at) at
 
--- a reader of s at an offset gives what stands there, and is one of s behind it
-pub record Reads (s : List ℕ) (at : ℕ) (x : Option Found) (rest : List ℕ) (behind : ℕ) : Type 0 where
-  pub found : x ≡ found_at s at
-  pub image : rest ≡ s
-  pub place : behind ≡ after_at s at
+-- a reader gives what stands where it is, and is then a reader of the same image behind it
+pub record Reads (r : Reader) (x : Option Found) (rest : Reader) : Type 0 where
+  pub found : x ≡ found_at r.image.now r.at
+  pub image : rest.image ≡ r.image
+  pub place : rest.at ≡ after_at r.image.now r.at

@@ -38,7 +38,7 @@ pub struct Reader<'a> {
 impl<'a> Iterator for Reader<'a> {
     type Item = Found;
 
-    ghost next_gives = { λ r x rest. Reads r.image.now r.at x rest.image.now rest.at };
+    ghost next_gives = { Reads };
 
     ghost remaining = { λ r. at_most (length r.image.now - r.at) };
 

@@ -3,13 +3,14 @@
 // counts, a diagnostic, or the filled image. The last line sums up the files that should agree.
 #![tactic(auto)]
 
-use agreement::{Agreement, compare};
+use agreement::{Difference, compare};
 use base::part_of;
 use image_texts::same_bytes;
+use oce_model::Refusal;
 use std::env::{Env, FillError};
+use std::fmt;
 use std::fs::Files;
-use std::num::wrapping_add_u64;
-use stored::{FIRST_RECORD, Reading, Record, is_stored, record_at, record_count};
+use stored::{FIRST_RECORD, Record, is_stored, record_at, record_count};
 use streams::{open_read, read_full};
 
 // No file is longer: a record of 131,072 bytes behind the file's first 12.
@@ -21,8 +22,10 @@ const LONGEST_NAME: usize = 4096;
 // The length of `wrong`, with which the name of a file begins whose answers are wrong on purpose.
 const WRONG_LENGTH: usize = 5;
 
+// ---- sums
+
 // Of one file or of several.
-#[derive(Clone, Copy)]
+#[derive(Clone, Copy, Default)]
 struct Sum {
     pub images: u64,
     pub refused: u64,
@@ -31,195 +34,144 @@ struct Sum {
     pub failed: u64,
 }
 
-// Where the next record begins, and what the records before it gave.
-#[derive(Clone, Copy)]
-struct Turn {
-    pub at: usize,
-    pub sum: Sum,
-    // The record there doesn't fit.
-    pub is_cut: bool,
+impl Sum {
+    fn plus(self, other: Sum) -> Sum {
+        Sum {
+            images: self.images.wrapping_add(other.images),
+            refused: self.refused.wrapping_add(other.refused),
+            differ: self.differ.wrapping_add(other.differ),
+            failed: self.failed.wrapping_add(other.failed),
+        }
+    }
+}
+
+impl fmt::Display for Sum {
+    fn fmt<W: fmt::Write>(&self, f: &mut fmt::Formatter<W>) -> fmt::Result {
+        let Sum {
+            images,
+            refused,
+            differ,
+            failed,
+        } = *self;
+        write!(f, "{images} images {refused} refused {differ} differ")?;
+        if failed > 0 {
+            write!(f, " {failed} files failed")?;
+        }
+        Ok(())
+    }
 }
 
 // ---- printing; that it can't be written stops nothing
 
-fn print<P: Print>(to: &P, text: &[u8]) {
-    let _ = to.write_all(text);
+// A name, then the rest of a line about it.
+fn print_line<P: Print, D: fmt::Display + Drop>(to: &P, name: &[u8], rest: D) {
+    let _ = to.write_all(name);
+    let _ = to.println(rest);
 }
 
-fn print_number<P: Print>(to: &P, n: u64) {
-    let _ = to.print(n);
-}
+// A refusal as it is told: its number and offset, 0 where there is none.
+#[derive(Clone, Copy)]
+struct Told(Option<Refusal>);
 
-fn print_counted<P: Print>(to: &P, n: u64, what: &[u8]) {
-    print_number(to, n);
-    print(to, what);
-}
-
-fn print_sum<P: Print>(to: &P, sum: Sum) {
-    print_counted(to, sum.images, b" images ");
-    print_counted(to, sum.refused, b" refused ");
-    print_counted(to, sum.differ, b" differ");
-    if sum.failed > 0 {
-        print(to, b" ");
-        print_counted(to, sum.failed, b" files failed");
+impl fmt::Display for Told {
+    fn fmt<W: fmt::Write>(&self, f: &mut fmt::Formatter<W>) -> fmt::Result {
+        let (number, offset) = match self.0 {
+            Some(refusal) => (refusal.number, refusal.offset),
+            None => (0, 0),
+        };
+        write!(f, "{number} at {offset}")
     }
-    print(to, b"\n");
 }
 
-fn print_refusal<P: Print>(to: &P, what: &[u8], number: usize, offset: usize) {
-    print(to, what);
-    print_number(to, number as u64);
-    print(to, b" at ");
-    print_number(to, offset as u64);
-}
-
-fn print_record<P: Print>(to: &P, name: &[u8], k: usize) {
-    print(to, name);
-    print(to, b" record ");
-    print_number(to, k as u64);
-}
-
-// Says how record k of a file differs, and gives how many differ: 1 or 0.
-fn print_difference<P: Print>(to: &P, name: &[u8], k: usize, r: Record, found: Agreement) -> u64 {
+// Says how record k of a file differs.
+fn print_difference<P: Print>(to: &P, name: &[u8], k: usize, r: Record, found: Difference) {
     match found {
-        Agreement::Same => {
-            return 0;
+        Difference::Refusal(here) => {
+            let oracle = Told(r.answer.err());
+            let here = Told(here);
+            print_line(
+                to,
+                name,
+                format_args!(" record {k} oracle {oracle} here {here}"),
+            );
         }
-        Agreement::Refusal { number, at } => {
-            let answer = r.answer;
-            print_record(to, name, k);
-            print_refusal(to, b" oracle ", answer.number, answer.offset);
-            print_refusal(to, b" here ", number as usize, at as usize);
+        Difference::Counts => {
+            print_line(
+                to,
+                name,
+                format_args!(" record {k} errors and warnings differ"),
+            );
         }
-        Agreement::Counts => {
-            print_record(to, name, k);
-            print(to, b" errors and warnings differ");
+        Difference::Diagnostic(n) => {
+            print_line(
+                to,
+                name,
+                format_args!(" record {k} differs from diagnostic {n}"),
+            );
         }
-        Agreement::Diagnostic(n) => {
-            print_record(to, name, k);
-            print(to, b" differs from diagnostic ");
-            print_number(to, n as u64);
+        Difference::Filled => {
+            print_line(to, name, format_args!(" record {k} filled image differs"));
         }
-        Agreement::Filled => {
-            print_record(to, name, k);
-            print(to, b" filled image differs");
-        }
-    }
-    print(to, b"\n");
-    1
-}
-
-// ---- sums
-
-fn nothing() -> Sum {
-    Sum {
-        images: 0,
-        refused: 0,
-        differ: 0,
-        failed: 0,
-    }
-}
-
-fn plus(a: Sum, b: Sum) -> Sum {
-    Sum {
-        images: wrapping_add_u64(a.images, b.images),
-        refused: wrapping_add_u64(a.refused, b.refused),
-        differ: wrapping_add_u64(a.differ, b.differ),
-        failed: wrapping_add_u64(a.failed, b.failed),
     }
 }
 
 // Says why a file can't be gone through.
-fn fail<P: Print>(to: &P, name: &[u8], why: &[u8]) -> Sum {
-    print(to, name);
-    print(to, why);
-    print(to, b"\n");
+fn fail<P: Print>(to: &P, name: &[u8], why: &str) -> Sum {
+    print_line(to, name, why);
     Sum {
-        images: 0,
-        refused: 0,
-        differ: 0,
         failed: 1,
+        ..Sum::default()
     }
 }
 
 // ---- one image
 
-fn is_refused(r: Record) -> u64 {
-    let answer = r.answer;
-    if answer.number == 0 {
-        return 0;
-    }
-    1
-}
-
-// Whether a file's answers are wrong on purpose, by its name: it isn't summed up with the others.
-fn is_wrong(name: &[u8]) -> bool {
-    same_bytes(part_of(name, 0, WRONG_LENGTH), b"wrong")
-}
-
 // Record k of a file.
 fn replay_record<P: Print>(to: &P, name: &[u8], file: &[u8], k: usize, r: Record) -> Sum {
     let found = compare(file, r);
+    if let Err(difference) = found {
+        print_difference(to, name, k, r, difference);
+    }
     Sum {
         images: 1,
-        refused: is_refused(r),
-        differ: print_difference(to, name, k, r, found),
+        refused: u64::from(r.answer.is_err()),
+        differ: u64::from(found.is_err()),
         failed: 0,
     }
 }
 
 // ---- one file
 
-fn replay_next<P: Print>(to: &P, name: &[u8], file: &[u8], k: usize, turn: Turn) -> Turn {
-    let sum = turn.sum;
-    let reading = record_at(file, turn.at);
-    match reading {
-        Reading::Cut => Turn {
-            at: turn.at,
-            sum,
-            is_cut: true,
-        },
-        Reading::Whole(r) => Turn {
-            at: r.end,
-            sum: plus(sum, replay_record(to, name, file, k, r)),
-            is_cut: false,
-        },
-    }
+// Whether a file's answers are wrong on purpose, by its name: it isn't summed up with the others.
+fn is_wrong(name: &[u8]) -> bool {
+    same_bytes(part_of(name, 0, WRONG_LENGTH), b"wrong")
 }
 
-// All records, as many as the file says it has, up to one that doesn't fit.
-fn replay_records<P: Print>(to: &P, name: &[u8], file: &[u8]) -> Turn {
-    let mut turn = Turn {
-        at: FIRST_RECORD,
-        sum: nothing(),
-        is_cut: false,
-    };
+// All records, as many as the file says it has: where the last ends, and what they give. None where one doesn't fit.
+fn replay_records<P: Print>(to: &P, name: &[u8], file: &[u8]) -> Option<(usize, Sum)> {
+    let mut at = FIRST_RECORD;
+    let mut sum = Sum::default();
     for k in 0..record_count(file) {
-        turn = replay_next(to, name, file, k, turn);
-        if turn.is_cut {
-            return turn;
-        }
+        let r = record_at(file, at)?;
+        sum = sum.plus(replay_record(to, name, file, k, r));
+        at = r.end;
     }
-    turn
+    Some((at, sum))
 }
 
 fn replay_bytes<P: Print>(to: &P, name: &[u8], file: &[u8]) -> Sum {
     if !is_stored(file) {
-        return fail(to, name, b" isn't a file of stored answers of version 1");
+        return fail(to, name, " isn't a file of stored answers of version 1");
     }
-    let last = replay_records(to, name, file);
-    if last.is_cut {
-        return fail(to, name, b" has a record that doesn't fit");
+    let Some((end, sum)) = replay_records(to, name, file) else {
+        return fail(to, name, " has a record that doesn't fit");
+    };
+    if end != file.len() {
+        return fail(to, name, " doesn't end with its last record");
     }
-    if last.at != file.len() {
-        return fail(to, name, b" doesn't end with its last record");
-    }
-    print(to, name);
-    print(to, b" ");
-    let sum = last.sum;
-    print_sum(to, sum);
+    print_line(to, name, format_args!(" {sum}"));
     if is_wrong(name) {
-        return nothing();
+        return Sum::default();
     }
     sum
 }
@@ -230,14 +182,14 @@ fn replay_file<R: Files + Print>(rt: &R, name: &[u8]) -> Sum {
             let mut file = [0u8; LONGEST_FILE + 1];
             let n = read_full(&mut from, &mut file).length;
             if n == 0 {
-                return fail(rt, name, b" is empty or can't be read");
+                return fail(rt, name, " is empty or can't be read");
             }
             if LONGEST_FILE < n {
-                return fail(rt, name, b" is too long");
+                return fail(rt, name, " is too long");
             }
             replay_bytes(rt, name, &file[..n])
         }
-        Err(_) => fail(rt, name, b" can't be opened"),
+        Err(_) => fail(rt, name, " can't be opened"),
     }
 }
 
@@ -246,18 +198,18 @@ fn replay_argument<R: Env + Files + Print>(rt: &R, i: usize) -> Option<Sum> {
     let mut name = [0u8; LONGEST_NAME];
     match rt.arg(i, &mut name) {
         Ok(n) => Some(replay_file(rt, &name[..n])),
-        Err(FillError::TooLong) => Some(fail(rt, b"a name", b" is too long")),
+        Err(FillError::TooLong) => Some(fail(rt, b"a name", " is too long")),
         Err(FillError::NotPresent) => None,
     }
 }
 
 fn main(rt: HostRuntime) {
-    let mut total = nothing();
+    let mut total = Sum::default();
     for i in 1..usize::MAX {
         match replay_argument(&rt, i) {
-            Some(sum) => total = plus(total, sum),
+            Some(sum) => total = total.plus(sum),
             None => break,
         }
     }
-    print_sum(&rt, total);
+    let _ = rt.println(total);
 }

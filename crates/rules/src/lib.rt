@@ -5,8 +5,6 @@ ghost use Rattle.std.specs.Prelude.{◌≡◌, ◌≤◌, length};
 ghost use Rattle.oce_model.specs.Model.{model_of, connector_count};
 ghost use Rattle.oce_model.specs.Format.{most_connectors};
 ghost use Rattle.oce_diag.specs.Reporting.{Room, Puts};
-ghost use Rattle.structural_degrees.specs.Columns.{Degrees};
-ghost use Rattle.structural_externals.specs.Columns.{Listed};
 ghost use Rattle.unify_slots.specs.Slots.{slot_count};
 ghost use Rattle.outcome.specs.Report.{rules_before6};
 ghost use Rattle.rules.specs.Ran.{none, Roomy, Ran, most_before6};
@@ -17,8 +15,8 @@ use oce_diag::{Counted, Report};
 use oce_model::{Attrs, MOST_CONNECTORS};
 use structural_arena_ids::check_arena_ids;
 use structural_assignment::check_single_assignment;
-use structural_degrees::in_degrees;
-use structural_externals::{EXTERNALS_COLUMN, list_externals};
+use structural_degrees::InDegrees;
+use structural_externals::{EXTERNALS_COLUMN, Externals};
 use structural_wiring::{check_boundary_outputs, check_connections};
 use unify_clusters::unify_clusters;
 
@@ -28,34 +26,29 @@ const FEW_RECORDS: usize = 192;
 const FEW_EXTERNALS_COLUMN: usize = 2 * FEW_RECORDS + 1;
 
 // The rules before rule 6.
-fn rules_before_6(image: &Image, degrees: &[u32], externals: &[u32], report: &mut Report)
-    requires columns { Degrees (model_of image.now) degrees.now × Listed (model_of image.now) externals.now }
+fn rules_before_6(degrees: &InDegrees, externals: &Externals, report: &mut Report)
+    requires one { externals.now ≡ degrees.now }
     requires room { Room most_before6 report.old }
-    ensures { Puts most_before6 (rules_before6 (model_of image.now)) report.old report.new }
+    ensures { Puts most_before6 (rules_before6 (model_of degrees.now)) report.old report.new }
 {
+    let image = degrees.image();
     check_arena_ids(image, report);
     check_boundary_outputs(image, report);
-    check_single_assignment(image, degrees, externals, report);
+    check_single_assignment(degrees, externals, report);
     check_connections(image, report);
-    check_crossed_bounds(image, externals, report);
+    check_crossed_bounds(externals, report);
 }
 
 // All rules, over a report with nothing counted.
-fn all_rules(
-    image: &Image,
-    degrees: &[u32],
-    externals: &[u32],
-    slots: &mut [Attrs],
-    report: &mut Report,
-)
-    requires columns { Degrees (model_of image.now) degrees.now × Listed (model_of image.now) externals.now }
-    requires slots { length slots.old ≡ slot_count (model_of image.now) }
-    requires start { (report.old.counted ≡ none) × (connector_count (model_of image.now) ≤ most_connectors) }
-    ensures ran { Ran (model_of image.now) slots.new report.old.bytes.now report.new.bytes.now report.new.counted }
+fn all_rules(degrees: &InDegrees, externals: &Externals, slots: &mut [Attrs], report: &mut Report)
+    requires one { externals.now ≡ degrees.now }
+    requires slots { length slots.old ≡ slot_count (model_of degrees.now) }
+    requires start { (report.old.counted ≡ none) × (connector_count (model_of degrees.now) ≤ most_connectors) }
+    ensures ran { Ran (model_of degrees.now) slots.new report.old.bytes.now report.new.bytes.now report.new.counted }
     ensures same { report.new.bytes.ghost_name ≡ report.old.bytes.ghost_name }
 {
-    rules_before_6(image, degrees, externals, report);
-    unify_clusters(image, degrees, slots, report);
+    rules_before_6(degrees, externals, report);
+    unify_clusters(degrees, slots, report);
 }
 
 // The same over columns of in-degrees and of external ids with so many entries.
@@ -70,8 +63,8 @@ fn run_in<const CONNECTORS: usize, const EXTERNALS: usize>(
 {
     let mut degrees = [0u32; CONNECTORS];
     let mut externals = [0u32; EXTERNALS];
-    in_degrees(image, &mut degrees);
-    list_externals(image, &mut externals);
+    let degrees = InDegrees::count(image, &mut degrees);
+    let externals = Externals::list(image, &mut externals);
     let mut report = Report {
         bytes: report,
         counted: Counted {
@@ -79,7 +72,7 @@ fn run_in<const CONNECTORS: usize, const EXTERNALS: usize>(
             warnings: 0,
         },
     };
-    all_rules(image, &degrees, &externals, slots, &mut report);
+    all_rules(&degrees, &externals, slots, &mut report);
     let Report { bytes: _, counted } = report;
     counted
 }

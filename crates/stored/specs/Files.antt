@@ -1,10 +1,9 @@
 -- Files of stored answers, as docs/STORED_ANSWERS.md has them.
-use Rattle.std.specs.Prelude.{ℕ, ◌+◌, Bool, ◌&&◌, cond, List, eqb, leb, length}
+use Rattle.std.specs.Prelude.{ℕ, ◌+◌, Bool, ◌&&◌, cond, List, eqb, leb, length, Option, Some, None, Result, Ok, Err}
 use Rattle.numbers.specs.Bytes.{byte, le32}
-use Rattle.stored.specs.declared.Answer.{Answer}
+use Rattle.oce_model.specs.declared.Refusal.{Refusal}
+use Rattle.stored.specs.declared.Results.{Results}
 use Rattle.stored.specs.declared.Record.{Record}
-use Rattle.stored.specs.declared.Reading.{Reading}
-use Rattle.stored.specs.declared.Reading.TheVariants.{Whole, Cut}
 
 -- ---- a file: magic, version, number of records, then the records
 
@@ -15,37 +14,69 @@ magic = 0x4145434F
 abbrev pub version : ℕ
 version = 1
 
+abbrev pub version_at : ℕ
+version_at = 4
+
 abbrev pub count_at : ℕ
 count_at = 8
 
 unfoldable pub is_stored : List ℕ → Bool
-is_stored s = eqb (le32 s 0) magic && eqb (le32 s 4) version
+is_stored s = eqb (le32 s 0) magic && eqb (le32 s version_at) version
 
 -- ---- a record: the length of the rest, the length of the image, the image, the answer
 
--- the bytes of an answer before its diagnostics
+-- where the image's length and the image stand
+abbrev pub length_at : ℕ
+length_at = 4
+
+abbrev pub image_at : ℕ
+image_at = 8
+
+-- where the parts of an answer stand, and its bytes before its diagnostics
+abbrev pub told_at : ℕ
+told_at = 1
+
+abbrev pub offset_at : ℕ
+offset_at = 4
+
+abbrev pub errors_at : ℕ
+errors_at = 8
+
+abbrev pub warnings_at : ℕ
+warnings_at = 12
+
+abbrev pub filled_at : ℕ
+filled_at = 16
+
 abbrev pub answer_length : ℕ
 answer_length = 20
 
--- the answer at an offset
-unfoldable pub answer_at : List ℕ → ℕ → Answer
-answer_at s at = record {
-  number = byte s at;
-  told = byte s (at + 1);
-  offset = le32 s (at + 4);
-  errors = le32 s (at + 8);
-  warnings = le32 s (at + 12);
-  filled = le32 s (at + 16);
+-- an image is accepted, with its results where they are told, or refused
+abbrev pub Answer : Type 0
+Answer = Result (Option Results) Refusal
+
+-- the results in the answer at an offset
+unfoldable pub results_at : List ℕ → ℕ → Results
+results_at s at = record {
+  counted = record { errors = le32 s (at + errors_at); warnings = le32 s (at + warnings_at) };
+  filled = le32 s (at + filled_at);
   diagnostics = at + answer_length;
 }
 
+-- the answer at an offset: number 0 is no refusal
+unfoldable pub answer_at : List ℕ → ℕ → Answer
+answer_at s at =
+    cond (eqb (byte s at) 0) (Ok (cond (eqb (byte s (at + told_at)) 0) None (Some (results_at s at))))
+    (Err (record { number = byte s at; offset = le32 s (at + offset_at) }))
+
 -- the record at an offset, with rest bytes behind its length, len of them the image
 unfoldable pub placed : List ℕ → ℕ → ℕ → ℕ → Record
-placed s at rest len = record { image = at + 8; len = len; answer = answer_at s (at + 8 + len); end = at + 4 + rest }
+placed s at rest len = record { image = at + image_at; len = len; answer = answer_at s (at + image_at + len); end = at + length_at + rest }
 
 -- it lies in the file, and image and answer lie in it
 unfoldable pub fits : List ℕ → ℕ → ℕ → ℕ → Bool
-fits s at rest len = leb (at + 4 + rest) (length s) && leb (4 + len + answer_length) rest
+fits s at rest len = leb (at + length_at + rest) (length s) && leb (length_at + len + answer_length) rest
 
-unfoldable pub record_at : List ℕ → ℕ → Reading
-record_at s at = cond (fits s at (le32 s at) (le32 s (at + 4))) (Whole (placed s at (le32 s at) (le32 s (at + 4)))) Cut
+-- the record at an offset, if it fits
+unfoldable pub record_at : List ℕ → ℕ → Option Record
+record_at s at = cond (fits s at (le32 s at) (le32 s (at + length_at))) (Some (placed s at (le32 s at) (le32 s (at + length_at)))) None

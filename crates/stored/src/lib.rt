@@ -4,40 +4,54 @@
 
 ghost use Rattle.std.specs.Prelude.{◌≡◌, ◌+◌, ◌≤◌, length};
 ghost use Rattle.numbers.specs.Bytes.{le32};
-ghost use Rattle.stored.specs.Files.{is_stored, count_at, answer_length, answer_at, record_at};
+ghost use Rattle.stored.specs.Files.{is_stored, count_at, answer_length, results_at, answer_at, record_at};
 
-use numbers::{at32, byte_at};
+use numbers::{LittleEndian, at32, byte_at};
+use oce_diag::Counted;
+use oce_model::Refusal;
 
 // 4F 43 45 41, the low byte first.
 const MAGIC: usize = 0x4145_434F;
 
 const VERSION: usize = 1;
 
-// The first record begins behind magic, version and the number of records.
+// Where version and number of records stand; the first record begins behind them.
+const VERSION_AT: usize = 4;
+
+const COUNT_AT: usize = 8;
+
 pub const FIRST_RECORD: usize = 12;
 
-// Bytes of an answer before its diagnostics.
+// A record is the length of the rest, which counts all behind itself, the length of the image, the image, and the
+// answer: where the image's length and the image stand.
+const LENGTH_AT: usize = 4;
+
+const IMAGE_AT: usize = 8;
+
+// Where the parts of an answer stand, and its bytes before its diagnostics.
+const TOLD_AT: usize = 1;
+
+const OFFSET_AT: usize = 4;
+
+const ERRORS_AT: usize = 8;
+
+const WARNINGS_AT: usize = 12;
+
+const FILLED_AT: usize = 16;
+
 const ANSWER: usize = 20;
 
-// A record has at least so many bytes; its length counts all but the first 4.
-const LEAST_RECORD: usize = 28;
-
-const LEAST_REST: usize = 24;
-
-// What the oracle says of an image.
+// What the oracle tells of an accepted image: the counts of its report, and how many filled records there are.
 #[derive(Clone, Copy)]
-pub struct Answer {
-    // The refusal's number and offset, both 0 if the image is accepted.
-    pub number: usize,
-    pub offset: usize,
-    // 1 if report and filling are told.
-    pub told: usize,
-    pub errors: usize,
-    pub warnings: usize,
+pub struct Results {
+    pub counted: Counted,
     pub filled: usize,
     // Where the diagnostics begin; the filled records stand behind them.
     pub diagnostics: usize,
 }
+
+// What the oracle says of an image: it is accepted, with the results if they are told; or the refusal.
+pub type Answer = Result<Option<Results>, Refusal>;
 
 // An image with what the oracle says of it.
 #[derive(Clone, Copy)]
@@ -50,68 +64,74 @@ pub struct Record {
     pub end: usize,
 }
 
-#[derive(Clone, Copy)]
-pub enum Reading {
-    Whole(Record),
-    // No whole record begins here.
-    Cut,
-}
-
 // Whether a file begins with magic and version.
+#[tactic(auto, unfolding(crate::specs::Files::is_stored))]
 pub fn is_stored(s: &[u8]) -> bool
     ensures { result ≡ is_stored s.now }
 {
-    if at32(s, 0) != MAGIC {
-        return false;
-    }
-    at32(s, 4) == VERSION
+    at32(s, 0) == MAGIC && at32(s, VERSION_AT) == VERSION
 }
 
 // How many records a file says it has.
 pub fn record_count(s: &[u8]) -> usize
     ensures { result ≡ le32 s.now count_at }
 {
-    at32(s, 8)
+    at32(s, COUNT_AT)
 }
 
-fn answer_at(s: &[u8], at: usize) -> Answer
+// The results in the answer at an offset.
+#[tactic(auto, unfolding(crate::specs::Files::results_at))]
+fn results_at(s: &[u8], at: usize) -> Results
     requires { at + answer_length ≤ length s.now }
-    ensures { result ≡ answer_at s.now at }
+    ensures { result ≡ results_at s.now at }
 {
-    Answer {
-        number: byte_at(s, at),
-        told: byte_at(s, at + 1),
-        offset: at32(s, at + 4),
-        errors: at32(s, at + 8),
-        warnings: at32(s, at + 12),
-        filled: at32(s, at + 16),
+    Results {
+        counted: Counted {
+            errors: u32::read_padded(s, at + ERRORS_AT),
+            warnings: u32::read_padded(s, at + WARNINGS_AT),
+        },
+        filled: at32(s, at + FILLED_AT),
         diagnostics: at + ANSWER,
     }
 }
 
-// The record that begins at an offset.
-pub fn record_at(s: &[u8], at: usize) -> Reading
+// The answer at an offset.
+#[tactic(auto, unfolding(crate::specs::Files::answer_at))]
+fn answer_at(s: &[u8], at: usize) -> Answer
+    requires { at + answer_length ≤ length s.now }
+    ensures { result ≡ answer_at s.now at }
+{
+    let number = byte_at(s, at);
+    if number != 0 {
+        return Err(Refusal {
+            number: number as u32,
+            offset: u32::read_padded(s, at + OFFSET_AT),
+        });
+    }
+    if byte_at(s, at + TOLD_AT) == 0 {
+        return Ok(None);
+    }
+    Ok(Some(results_at(s, at)))
+}
+
+// The record that begins at an offset, if it fits in the file, and image and answer in it.
+pub fn record_at(s: &[u8], at: usize) -> Option<Record>
     ensures { result ≡ record_at s.now at }
 {
-    if s.len() < LEAST_RECORD {
-        return Reading::Cut;
-    }
-    if s.len() - LEAST_RECORD < at {
-        return Reading::Cut;
-    }
+    let left = s.len().checked_sub(at)?.checked_sub(LENGTH_AT)?;
     let rest = at32(s, at);
-    if s.len() - 4 - at < rest {
-        return Reading::Cut;
+    let len = at32(s, at + LENGTH_AT);
+    if left < rest {
+        return None;
     }
-    let len = at32(s, at + 4);
-    if rest < LEAST_REST + len {
-        return Reading::Cut;
+    if LENGTH_AT + rest < IMAGE_AT + len + ANSWER {
+        return None;
     }
-    let answer = answer_at(s, at + 8 + len);
-    Reading::Whole(Record {
-        image: at + 8,
+    let image = at + IMAGE_AT;
+    Some(Record {
+        image,
         len,
-        answer,
-        end: at + 4 + rest,
+        answer: answer_at(s, image + len),
+        end: at + LENGTH_AT + rest,
     })
 }

@@ -2,9 +2,8 @@
 // bytes, and a line that says what failed. Nothing is allocated.
 #![tactic(auto)]
 
-ghost use Rattle.std.specs.Prelude.{◌≤◌, length, take, OnOk};
-ghost use Rattle.std.specs.Io.KnownBytes.{Consumes};
-ghost use Rattle.streams.specs.Front.{StopsFor};
+ghost use Rattle.std.specs.Prelude.{◌<◌, ◌≤◌, length, take, OnOk};
+ghost use Rattle.std.specs.Io.KnownBytes.{Consumes, IsAtEnd};
 ghost use Rattle.streams.specs.Complaint.{Complains};
 
 use base::part_of;
@@ -14,48 +13,36 @@ use std::{fs, io};
 
 // ---- a buffer filled
 
-// Why no more was read.
-#[derive(Clone, Copy)]
-pub enum Stop {
-    Full,
-    AtEnd,
-    Failed(Error),
-}
-
-// How many bytes of a buffer were read, from its start on, and why no more.
+// How many bytes of a buffer were read, from its start on. The reading ends where no room or no byte is left; or
+// with a read that failed.
 #[derive(Clone, Copy)]
 pub struct Front {
     pub length: usize,
-    pub stop: Stop,
+    pub ended: io::Result<()>,
 }
 
 // Fills a buffer, in as many reads as it takes. What a failed read leaves behind the front isn't known.
 pub fn read_full<R: Read>(from: &mut R, buffer: &mut [u8]) -> Front
     ensures within { result.length ≤ length buffer.new }
     ensures bytes { Consumes (R.remaining from.old) (R.remaining from.new) (take result.length buffer.new) }
-    ensures stop { StopsFor result.stop result.length (length buffer.new) (R.remaining from.new) }
+    ensures stop { OnOk result.ended (result.length < length buffer.new → IsAtEnd (R.remaining from.new)) }
 {
     let mut done = 0;
     while done < buffer.len() {
         match from.read(&mut buffer[done..]) {
-            Ok(0) => {
-                return Front {
-                    length: done,
-                    stop: Stop::AtEnd,
-                };
-            }
+            Ok(0) => break,
             Ok(n) => done += n,
             Err(why) => {
                 return Front {
                     length: done,
-                    stop: Stop::Failed(why),
+                    ended: Err(why),
                 };
             }
         }
     }
     Front {
         length: done,
-        stop: Stop::Full,
+        ended: Ok(()),
     }
 }
 
@@ -77,12 +64,13 @@ fn put_message(text: &mut [u8; LONGEST_MESSAGE], error: Error) -> usize {
 
 // The system's words: a message without the number behind them.
 fn words_of(message: &[u8]) -> &[u8] {
-    for i in 0..message.len() {
-        if part_of(message, i, NUMBER.len()) == &NUMBER[..] {
-            return part_of(message, 0, i);
-        }
+    match message
+        .windows(NUMBER.len())
+        .position(|part| part == &NUMBER[..])
+    {
+        Some(i) => part_of(message, 0, i),
+        None => message,
     }
-    message
 }
 
 // Writes a line: what failed, as the caller names it, a colon and why.
@@ -104,10 +92,7 @@ const NOT_TEXT: i32 = 84;
 
 // A name as the library takes it, which knows names of text alone.
 fn path_of(name: &[u8]) -> io::Result<&str> {
-    match std::str::from_utf8(name) {
-        Ok(path) => Ok(path),
-        Err(_) => Err(Error::from_raw_os_error(NOT_TEXT)),
-    }
+    std::str::from_utf8(name).map_err(|_| Error::from_raw_os_error(NOT_TEXT))
 }
 
 // Opens a file for reading.

@@ -1,7 +1,7 @@
 -- In-degrees, as `in_degrees` in rules/mod.rs counts them, and external inputs. FORMAT 11 and 3.
 use Rattle.std.specs.Prelude.{ℕ, Bool, cond, eqb}
 use Rattle.base.specs.Lists.{tally, any}
-use Rattle.oce_model.specs.Model.{Connection, Model, connection, connection_count, is_connector}
+use Rattle.oce_model.specs.Model.{Model, connection, connection_count, is_connector}
 
 -- the `to` of connection k is i
 abbrev pub leads_to : Model → ℕ → ℕ → Bool

@@ -37,7 +37,7 @@ fn port_faults(ids: &Ids, n: usize, subject: Subject, detail: u8, report: &mut R
 {
     for j in 0..ids.count() {
         let outside = error(MalformedDocument, RULE, detail, subject, j as u32);
-        report.put_if(ids.id(j) >= n, outside);
+        report.put_if(ids.id(j) as usize >= n, outside);
     }
 }
 

@@ -1,14 +1,15 @@
 -- What rule 3 reports of one connector, from what was read of it and found of its id.
+use mathlib.Core.Logic.{◌≢◌}
 use Prim.Native.Nat.{ℕ, ◌≤◌, ◌*◌}
 use native.Mathlib.Omega.{arith}
 use mathlib.Core.Path.{◌≡◌, sym, ap, ◌∙◌}
-use mathlib.Core.Logic.{◌≢◌}
-use mathlib.Core.Bool.{Bool, not}
+use mathlib.Core.Bool.{Bool, true, false, not}
 use lib.Dec.{ltb, eqb}
 use borrow.Author.Tests.{le-ltb, eq-eqb, ne_eqb}
 use Rattle.base.specs.Lists.{only}
-use Rattle.oce_model.specs.Format.{dir_in, most_connectors}
-use Rattle.oce_model.specs.Model.{Model, connector, connector_count}
+use Rattle.oce_model.specs.Format.{most_connectors}
+use Rattle.oce_model.specs.Model.{Model, inwards, is_in, connector, connector_count}
+use Rattle.oce_model.proofs.Records.{inwards_is}
 use Rattle.oce_model.specs.declared.ConnectorFront.{ConnectorFront}
 use Rattle.oce_diag.specs.Diagnostics.{connector_subject, subject_of, error}
 use Rattle.oce_diag.specs.Reporting.{Puts, Turns}
@@ -50,9 +51,9 @@ degree-tests i d subject outside et ex ey p q = rw (← et, ← ex, ← ey) (put
 -- ---- a connector
 
 module _ (m : Model) (i : ℕ) {c : ConnectorFront} (e : c ≡ connector_read (connector m i)) where
-  dir-is : c.dir ≡ (connector m i).dir
+  dir-is : {t : Bool} → t ≡ inwards c.dir → t ≡ is_in (connector m i)
   unfolding connector_read
-  dir-is = ap (λ (y : ConnectorFront). y.dir) e
+  dir-is h = h ∙ ap (λ (y : ConnectorFront). inwards y.dir) e ∙ inwards_is (connector m i)
 
   id-is : c.id.0 ≡ (connector m i).id
   unfolding connector_read
@@ -63,17 +64,17 @@ module _ (m : Model) (i : ℕ) {c : ConnectorFront} (e : c ≡ connector_read (c
   subject-is = ap (λ (y : ConnectorFront). connector_subject y.iri y.id) e
 
   -- one that is an output
-  pub not-assigned : {n : ℕ} {r : Report} → c.dir ≢ dir_in → Puts n (assignment_faults m i (connector m i)) r r
+  pub not-assigned : {n : ℕ} {r : Report} {t : Bool} → t ≡ inwards c.dir → t ≡ false → Puts n (assignment_faults m i (connector m i)) r r
   unfolding assignment_faults
-  not-assigned n = rw (ne_eqb _ _ (λ q. n (dir-is ∙ q))) puts-none
+  not-assigned h f = rw (sym (dir-is h) ∙ f) puts-none
 
   -- and one that is an input
-  pub assigned : {n : ℕ} {r r' : Report} {subject : Subject} {d : ℕ} {outside : Bool} → c.dir ≡ dir_in → subject ≡ connector_subject c.iri c.id
+  pub assigned : {n : ℕ} {r r' : Report} {subject : Subject} {d : ℕ} {outside t : Bool} → t ≡ inwards c.dir → t ≡ true → subject ≡ connector_subject c.iri c.id
       → d ≡ degree m c.id.0 → outside ≡ external m c.id.0
       → Puts n (degree_faults i subject d outside) r r'
       → Puts n (assignment_faults m i (connector m i)) r r'
   unfolding assignment_faults degree_faults undriven
-  assigned q es ed eo p = rw (eq-eqb _ _ (sym dir-is ∙ q), ← (es ∙ subject-is), ← id-is, ← ed, ← eo) p
+  assigned h q es ed eo p = rw (sym (dir-is h) ∙ q, ← (es ∙ subject-is), ← id-is, ← ed, ← eo) p
 
 -- all of them
 pub rule3-put : (m : Model) {r₀ r : Report} {i : ℕ}

@@ -59,7 +59,7 @@ fn count_portion(image: &Image, first: usize, degrees: &mut [u32])
 }
 
 // How many connections lead to each connector.
-pub fn in_degrees(image: &Image, degrees: &mut [u32])
+fn in_degrees(image: &Image, degrees: &mut [u32])
     requires { connector_count (model_of image.now) ≤ length degrees.old }
     ensures { Degrees (model_of image.now) degrees.new × (length degrees.new ≡ length degrees.old) }
 {
@@ -73,12 +73,12 @@ pub fn in_degrees(image: &Image, degrees: &mut [u32])
 
 // An image, and the in-degrees of its connectors by their numbers. Clauses see the image.
 #[derive(Drop)]
-pub struct InDegrees<'a> {
-    image: &'a Image<'a>,
+pub struct InDegrees<'a, 'r, 'i> {
+    image: &'r Image<'i, 'i>,
     degrees: &'a [u32],
 }
 
-impl<'a> Model for InDegrees<'a> {
+impl<'a, 'r, 'i> Model for InDegrees<'a, 'r, 'i> {
     ghost use Rattle.std.specs.Prelude.{ℕ, List, length, ◌≡◌};
     ghost use Rattle.oce_model.specs.Model.{model_of, connector_count};
     ghost use Rattle.structural_degrees.specs.Columns.{Degrees};
@@ -90,9 +90,9 @@ impl<'a> Model for InDegrees<'a> {
     ghost invariant = { λ d. (length d.degrees.now ≡ connector_count (model_of d.image.now)) × Degrees (model_of d.image.now) d.degrees.now };
 }
 
-impl<'a> InDegrees<'a> {
+impl<'a, 'r, 'i> InDegrees<'a, 'r, 'i> {
     // Counts the connections of an image in a column.
-    pub fn count(image: &'a Image<'a>, column: &'a mut [u32]) -> InDegrees<'a>
+    pub fn count(image: &'r Image<'i, 'i>, column: &'a mut [u32]) -> InDegrees<'a, 'r, 'i>
         requires { connector_count (model_of image.now) ≤ length column.old }
         ensures { result ≡ image.now }
     {
@@ -104,7 +104,7 @@ impl<'a> InDegrees<'a> {
     }
 
     // The image.
-    pub fn image(&self) -> &'a Image<'a>
+    pub fn image(&self) -> &'r Image<'i, 'i>
         ensures { result.now ≡ self.now }
     {
         self.image

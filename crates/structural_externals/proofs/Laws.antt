@@ -1,5 +1,5 @@
 -- Laws of the column of external inputs, one external input more at a time, and of looking an id up.
-use Prim.Native.Nat.{ℕ, ◌+◌, ◌-◌, ◌<◌, ◌≤◌}
+use Prim.Native.Nat.{ℕ, ◌+◌, ◌<◌, ◌≤◌}
 use native.Mathlib.Decide.{ℕ_discrete}
 use native.Mathlib.Numerals.{add-one}
 use native.Mathlib.Omega.{arith}
@@ -17,7 +17,7 @@ use Rattle.oce_model.specs.Model.{Model}
 use Rattle.structural.specs.Degrees.{external}
 use Rattle.sorting.specs.Sort.{sorted, Ascending}
 use Rattle.sorting.proofs.Sorted.{sorted-ascending, any-sorted}
-use Rattle.structural_externals.specs.Columns.{listed_ids, others_count, others, behind, Lists, OthersSorted, Listed, Split}
+use Rattle.structural_externals.specs.Columns.{listed_ids, others, behind, Lists, OthersSorted, Listed, Split}
 
 -- ---- one id more
 
@@ -124,14 +124,6 @@ module _ {m : Model} {k n : ℕ} {xs : List ℕ} (v : Lists m k n xs) where
 
 -- ---- an id looked up
 
-mark-is : (b : Bool) → eqb (cond b 1 0) 1 ≡ b
-mark-is true = refl
-mark-is false = refl
-
--- an entry tells
-pub entry-tells : {m : Model} {xs : List ℕ} {h : ℕ} (id : ℕ) → Listed m xs → h ≡ listed_ids xs → id < h → eqb (get_or xs id 0) 1 ≡ external m id
-entry-tells {m} {xs} id v q l = ap (λ x. eqb x 1) (v.each id (rw q at l)) ∙ mark-is (external m id)
-
 -- an id without an entry is among the others, or is in no list
 any-others : (h id : ℕ) → h ≤ id → (ids : List ℕ) → any (eqb id) (others h ids) ≡ any (eqb id) ids
 unfolding any keep
@@ -141,19 +133,6 @@ any-others h id l (x ∷ xs) = arm (leb h x) refl (any-others h id l xs)
     arm : (b : Bool) → leb h x ≡ b → any (eqb id) (others h xs) ≡ any (eqb id) xs → any (eqb id) (cond b (x ∷ others h xs) (others h xs)) ≡ (eqb id x || any (eqb id) xs)
     arm true e f = ap (λ b. eqb id x || b) f
     arm false e f = let g = leb-false h x e in f ∙ rw (ne_eqb id x (λ z. absurd (omega arith)))
-
-module _ {m : Model} {xs : List ℕ} {h c : ℕ} (v : Listed m xs) (q : h ≡ listed_ids xs) (e : c ≡ get_or xs (others_count xs) 0) where
-  others-are : take (h + c - h) (drop h xs) ≡ sorted ltb (others h m.external_inputs)
-  others-are = let z : h + c - h ≡ get_or xs (others_count xs) 0 = omega arith in rw (z, q) v.rest
-
-  pub others-ascend : Ascending (take (h + c - h) (drop h xs))
-  others-ascend = rw others-are (sorted-ascending (others h m.external_inputs))
-
-  pub others-tell : {id : ℕ} {r : Bool} → h ≤ id → r ≡ any (eqb id) (take (h + c - h) (drop h xs)) → r ≡ external m id
-  unfolding external
-  others-tell {id} l p = p ∙ ap (any (eqb id)) others-are ∙ any-sorted ltb (eqb id) (others h m.external_inputs) ∙ any-others h id l m.external_inputs
-
--- ---- an id looked up in two lists
 
 module _ {m : Model} {marks ids : List ℕ} (v : Split m marks ids) where
   pub ids-ascend : Ascending ids

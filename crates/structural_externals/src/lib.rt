@@ -10,7 +10,7 @@ ghost use Rattle.structural.specs.Degrees.{external};
 ghost use Rattle.structural_externals.specs.Columns.{half, listed_ids, others_count, Lists, OthersSorted, Listed};
 
 use image_records::Image;
-use oce_model::MOST_EXTERNAL_INPUTS;
+use oce_model::{ConnectorId, MOST_EXTERNAL_INPUTS};
 use sorting::{is_among, sort};
 use std::marker::Model;
 
@@ -31,12 +31,12 @@ fn list_one(image: &Image, k: usize, n: usize, externals: &mut [u32]) -> usize
     ensures { Lists (model_of image.now) (k + 1) result externals.new }
 {
     let h = half(externals.len());
-    let id = image.external_input(k);
-    if id < h {
-        externals[id] = 1;
+    let id = image.external_input(k).0;
+    if (id as usize) < h {
+        externals[id as usize] = 1;
         n
     } else {
-        externals[h + n] = id as u32;
+        externals[h + n] = id;
         n + 1
     }
 }
@@ -52,7 +52,7 @@ fn sort_others(externals: &mut [u32], n: usize)
 }
 
 // The external inputs of an image in a column, which the caller has cleared.
-pub fn list_externals(image: &Image, externals: &mut [u32])
+fn list_externals(image: &Image, externals: &mut [u32])
     requires { Lists (model_of image.now) 0 0 externals.old }
     ensures { Listed (model_of image.now) externals.new }
 {
@@ -72,30 +72,17 @@ fn others(externals: &[u32]) -> usize
     externals[h + h] as usize
 }
 
-// An id is that of an external input.
-pub fn is_external(image: &Image, externals: &[u32], id: usize) -> bool
-    requires { Listed (model_of image.now) externals.now }
-    ensures { result ≡ external (model_of image.now) id }
-{
-    let h = half(externals.len());
-    if id < h {
-        externals[id] == 1
-    } else {
-        is_among(&externals[h..h + others(externals)], id)
-    }
-}
-
 // ---- an image with its external inputs
 
 // An image, and its external inputs where they are looked up in few steps. Clauses see the image.
 #[derive(Drop)]
-pub struct Externals<'a> {
-    image: &'a Image<'a>,
+pub struct Externals<'a, 'r, 'i> {
+    image: &'r Image<'i, 'i>,
     marks: &'a [u32],
     others: &'a [u32],
 }
 
-impl<'a> Model for Externals<'a> {
+impl<'a, 'r, 'i> Model for Externals<'a, 'r, 'i> {
     ghost use Rattle.std.specs.Prelude.{ℕ, List};
     ghost use Rattle.oce_model.specs.Model.{model_of};
     ghost use Rattle.structural_externals.specs.Columns.{Split};
@@ -107,9 +94,9 @@ impl<'a> Model for Externals<'a> {
     ghost invariant = { λ e. Split (model_of e.image.now) e.marks.now e.others.now };
 }
 
-impl<'a> Externals<'a> {
+impl<'a, 'r, 'i> Externals<'a, 'r, 'i> {
     // Lists the external inputs of an image in a column, which the caller has cleared.
-    pub fn list(image: &'a Image<'a>, column: &'a mut [u32]) -> Externals<'a>
+    pub fn list(image: &'r Image<'i, 'i>, column: &'a mut [u32]) -> Externals<'a, 'r, 'i>
         requires { Lists (model_of image.now) 0 0 column.old }
         ensures { result ≡ image.now }
     {
@@ -124,16 +111,17 @@ impl<'a> Externals<'a> {
     }
 
     // The image.
-    pub fn image(&self) -> &'a Image<'a>
+    pub fn image(&self) -> &'r Image<'i, 'i>
         ensures { result.now ≡ self.now }
     {
         self.image
     }
 
     // An id is that of an external input.
-    pub fn contains(&self, id: usize) -> bool
-        ensures { result ≡ external (model_of self.now) id }
+    pub fn contains(&self, id: ConnectorId) -> bool
+        ensures { result ≡ external (model_of self.now) id.0 }
     {
+        let id = id.0 as usize;
         if id < self.marks.len() {
             self.marks[id] == 1
         } else {

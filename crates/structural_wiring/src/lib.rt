@@ -12,7 +12,7 @@ ghost use Rattle.structural_wiring.specs.PerRecord.{most_output_faults, most_con
 use image_records::Image;
 use oce_diag::DiagCode::{DirectionMismatch, MalformedDocument, TypeMismatch};
 use oce_diag::{Report, Subject, error, subject_of};
-use oce_model::{ConnectorFront, Dir};
+use oce_model::ConnectorFront;
 
 // The numbers of these rules, and of the details that each gives: of a boundary output's source, and of
 // the ends of a connection.
@@ -43,13 +43,13 @@ pub fn output_faults(image: &Image, i: usize, report: &mut Report)
 {
     prove!(i < image.boundary_output_count());
     let o = image.boundary_output(i);
-    let subject = Subject::Text(o.iri as u32);
+    let subject = Subject::Text(u32::from(o.iri));
     let place = i as u32;
     if (o.source.0 as usize) < image.connector_count() {
-        let own = image.boundary_output_attrs(i).kind as usize;
+        let own = image.boundary_output_attrs(i).kind;
         let c = image.connector(o.source);
         let inwards = error(DirectionMismatch, RULE_2, SOURCE_INWARDS, subject, place);
-        report.put_if(c.dir == Dir::In as usize, inwards);
+        report.put_if(c.dir.is_in(), inwards);
         let other = error(MalformedDocument, RULE_2, SOURCE_KIND, subject, place);
         report.put_if(own != c.value_type, other);
     } else {
@@ -92,9 +92,9 @@ pub fn connection_faults(image: &Image, k: usize, report: &mut Report)
         let from = subject_of(a.iri, a.id);
         let to = subject_of(b.iri, b.id);
         let inwards = error(DirectionMismatch, RULE_4, FROM_INWARDS, from, place);
-        report.put_if(a.dir == Dir::In as usize, inwards);
+        report.put_if(a.dir.is_in(), inwards);
         let outwards = error(DirectionMismatch, RULE_4, TO_OUTWARDS, to, place);
-        report.put_if(b.dir != Dir::In as usize, outwards);
+        report.put_if(!b.dir.is_in(), outwards);
         let other = error(TypeMismatch, RULE_4, TYPES_DIFFER, to, place);
         report.put_if(!same_type(a, b), other);
     } else {

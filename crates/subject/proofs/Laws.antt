@@ -1,27 +1,27 @@
 -- Laws of a subject's text: what is put, written and read in each case, and that reading after writing gives it.
 use Prim.Native.Nat.{ℕ, ◌≤◌}
 use native.Mathlib.Omega.{arith}
-use mathlib.Core.Path.{◌≡◌, refl, sym, ap, ◌∙◌}
+use mathlib.Core.Path.{◌≡◌, refl}
 use mathlib.Core.Bool.{Bool, true, false, cond}
 use mathlib.Core.List.{List, [], ◌++◌}
 use Rattle.std.specs.Prelude.{Option, Some, None}
 use lib.Dec.{eqb}
 use lib.ListN.{length, take, drop, length-append}
 use lib.Seq.{take-append_seam}
-use borrow.Author.Tests.{le-ltb}
+use borrow.Author.Tests.{le-ltb, eqb-true}
 use Rattle.base.specs.Buffers.{starts_with}
-use Rattle.base.proofs.Buffers.{starts_with-none, starts_with-length}
+use Rattle.base.proofs.Buffers.{starts_with-length}
 use Rattle.oce_model.specs.Model.{model_of, text}
-use Rattle.oce_model.specs.Refusals.{Refusal, refusal}
-use Rattle.image_accept.specs.Layout.{Laid, acceptance, accepts}
-use Rattle.image_accept.specs.declared.Acceptance.{Acceptance}
-use Rattle.image_accept.specs.declared.Acceptance.TheVariants.{Refused, Accepted}
-use Rattle.image_accept.specs.declared.Layout.{Layout}
-use Rattle.image_accept.proofs.Answers.{accepted-laid}
+use Rattle.oce_model.specs.Refusals.{refusal}
+use Rattle.oce_model.specs.declared.Refusal.{Refusal}
 use Rattle.decimal.specs.Decimal.{decimal}
 use Rattle.decimal.proofs.Decimal.{decimal-few}
-use Rattle.oce_diag.specs.Encoding.{text_subject_kind, connector_subject_kind, block_subject_kind}
-use Rattle.subject.specs.Subject.{connector_label, block_label, least_scratch, labelled, unless_refused, subject_text, if_room, written, scratch_after, part_of, part}
+use Rattle.oce_diag.specs.Decoded.{subject_from}
+use Rattle.oce_diag.specs.Diagnostics.{connector_id, block_id}
+use Rattle.oce_diag.specs.Encoding.{text_subject_kind, connector_subject_kind, block_subject_kind, subject_kind, subject_number}
+use Rattle.oce_diag.specs.declared.Subject.{Subject}
+use Rattle.oce_diag.specs.declared.Subject.TheVariants.{Nothing, Text, Connector, Block}
+use Rattle.subject.specs.Subject.{connector_label, block_label, least_scratch, labelled, label, subject_text, if_room, written, scratch_after, part_of, part}
 
 -- ---- where there is room
 
@@ -30,44 +30,42 @@ module _ (xs bs : List ℕ) where
   unfolding if_room
   room h = rw (le-ltb (length xs) least_scratch h)
 
--- ---- whether the image is refused
+-- ---- a subject's kind and number
 
-away : (s : List ℕ) (o : Option Refusal) (n at : ℕ) (bs : List ℕ) → Refused n at ≡ accepts s o → unless_refused o bs ≡ []
-away s None n at bs h = let z : ◌≡◌ {A = ℕ} 0 1 = cc in absurd (omega arith)
-away s (Some r) n at bs h = refl
+module _ (kind n : ℕ) where
+  pub label-from : label (subject_from kind n) ≡ labelled kind n
+  unfolding labelled subject_from
+  label-from = first (eqb kind text_subject_kind) refl
+    where
+      other : (b c : Bool) → label (cond b (Connector (connector_id n)) (cond c (Block (block_id n)) Nothing)) ≡ cond b (connector_label ++ decimal n) (cond c (block_label ++ decimal n) [])
+      other true c = refl
+      other false true = refl
+      other false false = refl
 
-module _ (s xs : List ℕ) (kind n : ℕ) {a : Acceptance} (e : a ≡ acceptance s) where
-  refused : {m at : ℕ} (bs : List ℕ) → a ≡ Refused m at → unless_refused (refusal s) bs ≡ []
-  unfolding acceptance
-  refused {m} {at} bs h = away s (refusal s) m at bs (sym h ∙ e)
+      first : (a : Bool) → eqb kind text_subject_kind ≡ a
+          → label (cond a (Text n) (cond (eqb kind connector_subject_kind) (Connector (connector_id n)) (cond (eqb kind block_subject_kind) (Block (block_id n)) Nothing)))
+          ≡ cond (eqb kind connector_subject_kind) (connector_label ++ decimal n) (cond (eqb kind block_subject_kind) (block_label ++ decimal n) [])
+      first true e = rw (eqb-true kind text_subject_kind e) refl
+      first false e = other (eqb kind connector_subject_kind) (eqb kind block_subject_kind)
 
-  pub refused-length : {m at : ℕ} → a ≡ Refused m at → 0 ≡ length (written s kind n xs)
-  unfolding written
-  refused-length h = sym (ap length (refused (if_room xs (labelled kind n)) h))
+  pub part-from : (s xs : List ℕ) → part_of s xs (subject_kind (subject_from kind n)) (subject_number (subject_from kind n)) ≡ part_of s xs kind n
+  unfolding part_of subject_from
+  part-from s xs = rw label-from (first (eqb kind text_subject_kind) refl)
+    where
+      t : List ℕ
+      t = take (length (if_room xs (labelled kind n))) xs
 
-  pub refused-after : {m at : ℕ} → a ≡ Refused m at → xs ≡ scratch_after s kind n xs
-  unfolding scratch_after written
-  refused-after h = rw (refused (if_room xs (labelled kind n)) h) (sym (starts_with-none xs))
+      of : Subject → List ℕ
+      of x = cond (eqb (subject_kind x) text_subject_kind) (text (model_of s) (subject_number x)) t
 
-  pub refused-read : {m at : ℕ} {r : List ℕ} → a ≡ Refused m at → r ≡ take 0 (drop 0 s) → r ≡ part s xs kind n
-  unfolding part
-  refused-read h q = rw (refused (part_of s xs kind n) h) q
+      other : (b c : Bool) → of (cond b (Connector (connector_id n)) (cond c (Block (block_id n)) Nothing)) ≡ t
+      other true c = refl
+      other false true = refl
+      other false false = refl
 
-  module _ {l : Layout} (h : a ≡ Accepted l) where
-    kept : (bs : List ℕ) → unless_refused (refusal s) bs ≡ bs
-    kept bs = ap (λ o. unless_refused o bs) (accepted-laid e h).accepted
-
-    pub accepted-length : {r : ℕ} → r ≡ length (if_room xs (labelled kind n)) → r ≡ length (written s kind n xs)
-    unfolding written
-    accepted-length q = q ∙ sym (ap length (kept (if_room xs (labelled kind n))))
-
-    pub accepted-after : {ys : List ℕ} → ys ≡ starts_with (if_room xs (labelled kind n)) xs → ys ≡ scratch_after s kind n xs
-    unfolding scratch_after written
-    accepted-after q = rw (kept (if_room xs (labelled kind n))) q
-
-    pub accepted-read : {r : List ℕ} → r ≡ part_of s xs kind n → r ≡ part s xs kind n
-    unfolding part
-    accepted-read q = rw (kept (part_of s xs kind n)) q
+      first : (a : Bool) → eqb kind text_subject_kind ≡ a → of (subject_from kind n) ≡ cond a (text (model_of s) n) t
+      first true e = rw e refl
+      first false e = rw e (other (eqb kind connector_subject_kind) (eqb kind block_subject_kind))
 
 -- ---- reading after writing
 
@@ -112,8 +110,3 @@ module _ (s xs : List ℕ) (kind n : ℕ) (h : least_scratch ≤ length xs) wher
   -- a subject's text is read where it was written, in a scratch that has room
   pub read-written : part s (scratch_after s kind n xs) kind n ≡ subject_text s kind n
   read-written = by-refusal (refusal s) refl
-
-  -- and so it is of an accepted image
-  pub accepted-written : {l : Layout} {ys : List ℕ} → Laid s l → ys ≡ starts_with (if_room xs (labelled kind n)) xs → part_of s ys kind n ≡ subject_text s kind n
-  unfolding part_of subject_text bs
-  accepted-written v e = rw (e, room xs bs h, v.accepted) (choose (eqb kind text_subject_kind))

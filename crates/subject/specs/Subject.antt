@@ -4,8 +4,10 @@ use Rattle.std.specs.Prelude.{ℕ, cond, List, [], ◌∷◌, ◌++◌, eqb, ltb
 use Rattle.std.specs.Prelude.{Option, Some, None}
 use Rattle.base.specs.Buffers.{starts_with}
 use Rattle.oce_model.specs.Model.{model_of, text}
-use Rattle.oce_model.specs.Refusals.{Refusal, refusal}
-use Rattle.oce_diag.specs.Encoding.{text_subject_kind, connector_subject_kind, block_subject_kind}
+use Rattle.oce_model.specs.Refusals.{refusal}
+use Rattle.oce_model.specs.declared.Refusal.{Refusal}
+use Rattle.oce_diag.specs.Encoding.{text_subject_kind, connector_subject_kind, block_subject_kind, subject_kind, subject_number}
+use Rattle.oce_diag.specs.declared.Subject.{Subject}
 use Rattle.decimal.specs.Decimal.{decimal}
 
 -- `connector#` and `block#`
@@ -20,6 +22,10 @@ unfoldable pub labelled : ℕ → ℕ → List ℕ
 labelled kind number =
     cond (eqb kind connector_subject_kind) (connector_label ++ decimal number)
     (cond (eqb kind block_subject_kind) (block_label ++ decimal number) [])
+
+-- the same of a subject
+abbrev pub label : Subject → List ℕ
+label x = labelled (subject_kind x) (subject_number x)
 
 -- an image that refusals 1 to 8 turn away gives none
 abbrev pub unless_refused : Option Refusal → List ℕ → List ℕ

@@ -12,7 +12,7 @@ use Rattle.oce_model.specs.Model.{Model, model_of, connector}
 use Rattle.oce_model.specs.declared.ConnectorFront.{ConnectorFront}
 use Rattle.image_records.specs.Records.{connector_read}
 use Rattle.oce_diag.specs.Diagnostics.{connector_subject, subject_of, error, warning}
-use Rattle.oce_diag.specs.Reporting.{Room, Puts}
+use Rattle.oce_diag.specs.Reporting.{Puts}
 use Rattle.oce_diag.specs.declared.DiagCode.{DiagCode}
 use Rattle.oce_diag.specs.declared.DiagCode.TheVariants.{UnitQuantityMismatch, BoundMismatch, DisplayUnitDivergence}
 use Rattle.oce_diag.specs.declared.Diagnostic.{Diagnostic}

@@ -5,7 +5,6 @@
 ghost use Rattle.std.specs.Prelude.{◌≡◌, ◌*◌, ◌<◌, length};
 ghost use Rattle.oce_model.specs.Model.{model_of, connector_count};
 ghost use Rattle.oce_diag.specs.Reporting.{Room, Puts};
-ghost use Rattle.structural_degrees.specs.Columns.{Degrees};
 ghost use Rattle.unify.specs.Slots.{slots_of};
 ghost use Rattle.unify.specs.Unify.{fill_root, root_faults, filled_slots, clusters_faults};
 ghost use Rattle.unify_slots.specs.Slots.{slot_count};
@@ -16,6 +15,7 @@ ghost use Rattle.unify_clusters.specs.Unified.{most_roots_faults, most_unified_f
 use image_records::Image;
 use oce_diag::Report;
 use oce_model::{Attrs, ConnectorId, MOST_BOUNDARY_OUTPUTS, MOST_CONNECTIONS, MOST_CONNECTORS};
+use structural_degrees::InDegrees;
 use unify_cluster::cluster;
 use unify_links::{Links, link_all, link_count};
 use unify_propagated::check_propagated_clusters;
@@ -81,19 +81,19 @@ const FEW_MEMBERS: usize = FEW_LINKS + 1;
 
 // The links in lists, all roots in turn and the test of their ranges, in arrays that have room for them.
 fn linked_roots<const CONNECTORS: usize, const LINKS: usize, const MEMBERS: usize>(
-    image: &Image,
-    degrees: &[u32],
+    degrees: &InDegrees,
     slots: &mut [Attrs],
     report: &mut Report,
 )
-    requires { Degrees (model_of image.now) degrees.now × (slots.old ≡ slots_of (model_of image.now)) × Room most_unified_faults report.old
-        × Roomy (model_of image.now) CONNECTORS LINKS MEMBERS }
-    ensures { Unified (model_of image.now) slots.new report.old report.new }
+    requires { (slots.old ≡ slots_of (model_of degrees.now)) × Room most_unified_faults report.old
+        × Roomy (model_of degrees.now) CONNECTORS LINKS MEMBERS }
+    ensures { Unified (model_of degrees.now) slots.new report.old report.new }
 {
+    let image = degrees.image();
     let mut head = [NO_LINK; CONNECTORS];
     let mut next = [0; LINKS];
     let mut members = [0; MEMBERS];
-    let links = link_all(image, degrees, &mut head, &mut next);
+    let links = link_all(degrees, &mut head, &mut next);
     unify_roots(image, links, slots, &mut members, report);
     if report.counted.errors == 0 {
         check_propagated_clusters(image, links, slots, report);
@@ -101,15 +101,16 @@ fn linked_roots<const CONNECTORS: usize, const LINKS: usize, const MEMBERS: usiz
 }
 
 // All of rule 6.
-pub fn unify_clusters(image: &Image, degrees: &[u32], slots: &mut [Attrs], report: &mut Report)
-    requires { Degrees (model_of image.now) degrees.now × (length slots.old ≡ slot_count (model_of image.now)) × Room most_unified_faults report.old }
-    ensures { Unified (model_of image.now) slots.new report.old report.new }
+pub fn unify_clusters(degrees: &InDegrees, slots: &mut [Attrs], report: &mut Report)
+    requires { (length slots.old ≡ slot_count (model_of degrees.now)) × Room most_unified_faults report.old }
+    ensures { Unified (model_of degrees.now) slots.new report.old report.new }
 {
+    let image = degrees.image();
     load_slots(image, slots);
     let links = link_count(image);
     if image.connector_count() <= FEW_CONNECTORS && links <= FEW_LINKS {
-        linked_roots::<FEW_CONNECTORS, FEW_LINKS, FEW_MEMBERS>(image, degrees, slots, report);
+        linked_roots::<FEW_CONNECTORS, FEW_LINKS, FEW_MEMBERS>(degrees, slots, report);
     } else {
-        linked_roots::<MOST_CONNECTORS, MOST_LINKS, MOST_MEMBERS>(image, degrees, slots, report);
+        linked_roots::<MOST_CONNECTORS, MOST_LINKS, MOST_MEMBERS>(degrees, slots, report);
     }
 }

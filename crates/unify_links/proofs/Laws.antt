@@ -14,18 +14,18 @@ use lib.Seq.{get_or-set_same, get_or-set_other, get_or-append_seam, take-suc-set
 use borrow.Author.Tests.{eq-eqb, ne_eqb, lt-ltb, le-ltb, ltb-true, ltb-false}
 use Rattle.base.specs.Lists.{each, only}
 use Rattle.base.proofs.Lists.{and_parts, each_next, each-add, each_same}
-use Rattle.oce_model.specs.Format.{dir_in}
-use Rattle.oce_model.specs.Model.{Connection as ModelConnection, BoundaryOutput, Model, connector, connection, boundary_output, connector_count, connection_count, boundary_output_count, is_connector}
+use Rattle.oce_model.specs.Model.{Connection as ModelConnection, BoundaryOutput, Model, connector, connection, boundary_output, connector_count, connection_count, boundary_output_count, is_connector, inwards, is_in}
+use Rattle.oce_model.proofs.Records.{inwards_is}
 use Rattle.oce_model.specs.declared.Connection.{Connection}
 use Rattle.oce_model.specs.declared.ConnectorId.{ConnectorId}
 use Rattle.oce_model.specs.declared.ConnectorFront.{ConnectorFront}
 use Rattle.oce_model.specs.declared.BoundaryOutputFront.{BoundaryOutputFront}
 use Rattle.image_records.specs.Records.{connector_read, connection_read, output_read}
 use Rattle.structural.specs.Structural.{in_range, matches}
-use Rattle.structural_degrees.specs.Columns.{Degrees}
+use Rattle.structural.specs.Degrees.{degree}
 use Rattle.unify.specs.Clusters.{drives, sound, target, alias, driven, is_root}
 use Rattle.unify_slots.specs.Slots.{slot_count, Inside}
-use Rattle.unify_links.specs.Links.{link_count, root_at, connection_root, output_root, root_of, target_of, belongs, member, Empty, Headed, Leads, Linked, Gathered}
+use Rattle.unify_links.specs.Links.{link_count, root_at, connection_root, output_root, root_of, target_of, belongs, member, Headed, Leads, Linked, Gathered}
 use Rattle.oce_model.specs.declared.ConnectorId.{ConnectorId}
 
 -- ---- roots
@@ -44,7 +44,7 @@ no-root e = omega (arith, ap (λ (x : Option ConnectorId). number x) e)
 -- ---- roots and targets, as code reads them
 
 module _ (m : Model) {n : ℕ} (en : n ≡ connector_count m) where
-  module _ {ds : List ℕ} (g : Degrees m ds) (k : ℕ) {q : Connection} (eq : q ≡ connection_read (connection m k)) where
+  module _ (k : ℕ) {q : Connection} (eq : q ≡ connection_read (connection m k)) where
     same_from : q.from.0 ≡ (connection m k).from
     unfolding connection_read
     same_from = ap (λ (c : Connection). c.from.0) eq
@@ -53,13 +53,12 @@ module _ (m : Model) {n : ℕ} (en : n ≡ connector_count m) where
     unfolding connection_read
     same-to = ap (λ (c : Connection). c.to.0) eq
 
-    pub connection-drives : q.from.0 < n → q.to.0 < n → get_or ds q.to.0 0 ≡ 1 → Some q.from ≡ connection_root m (connection m k)
+    pub connection-drives : {d : ℕ} → q.from.0 < n → q.to.0 < n → d ≡ degree m q.to.0 → d ≡ 1 → Some q.from ≡ connection_root m (connection m k)
     unfolding connection_root drives in_range connection_read
-    connection-drives a b e =
+    connection-drives a b g e =
         let a' : (connection m k).from < connector_count m = rw (en, same_from) at a in
         let b' : (connection m k).to < connector_count m = rw (en, same-to) at b in
-        let e' : get_or ds (connection m k).to 0 ≡ 1 = rw same-to at e in
-        rw (lt-ltb _ _ a', lt-ltb _ _ b', eq-eqb _ _ (sym (g.each _ b') ∙ e')) (ap (λ (c : Connection). Some c.from) eq)
+        rw (lt-ltb _ _ a', lt-ltb _ _ b', eq-eqb _ _ (sym (g ∙ ap (degree m) same-to) ∙ e)) (ap (λ (c : Connection). Some c.from) eq)
 
     pub connection-from : n ≤ q.from.0 → None ≡ connection_root m (connection m k)
     unfolding connection_root drives in_range
@@ -77,11 +76,11 @@ module _ (m : Model) {n : ℕ} (en : n ≡ connector_count m) where
           let b' : connector_count m ≤ (connection m k).to = rw (en, same-to) at b in
           rw (lt-ltb _ _ from-there, le-ltb _ _ b')
 
-      pub connection-degree : q.to.0 < n → (get_or ds q.to.0 0 ≡ 1 → ⊥) → None ≡ connection_root m (connection m k)
+      pub connection-degree : {d : ℕ} → q.to.0 < n → d ≡ degree m q.to.0 → (d ≡ 1 → ⊥) → None ≡ connection_root m (connection m k)
       unfolding connection_root drives in_range
-      connection-degree b e =
+      connection-degree b g e =
           let b' : (connection m k).to < connector_count m = rw (en, same-to) at b in
-          rw (lt-ltb _ _ from-there, lt-ltb _ _ b', ne_eqb _ _ (λ x. e (ap (λ (t : ℕ). get_or ds t 0) same-to ∙ g.each _ b' ∙ x)))
+          rw (lt-ltb _ _ from-there, lt-ltb _ _ b', ne_eqb _ _ (λ x. e (g ∙ ap (degree m) same-to ∙ x)))
 
   module _ (i : ℕ) {q : BoundaryOutputFront} (eq : q ≡ output_read (boundary_output m i)) where
     same_source : q.source.0 ≡ (boundary_output m i).source
@@ -98,29 +97,29 @@ module _ (m : Model) {n : ℕ} (en : n ≡ connector_count m) where
       near : (boundary_output m i).source < connector_count m
       near = rw (en, same_source) at a
 
-      same-dir : c.dir ≡ (connector m (boundary_output m i).source).dir
+      same-dir : {t : Bool} → t ≡ inwards c.dir → t ≡ is_in (connector m (boundary_output m i).source)
       unfolding connector_read
-      same-dir = ap (λ (c : ConnectorFront). c.dir) ec ∙ ap (λ (x : ℕ). (connector m x).dir) same_source
+      same-dir h = h ∙ ap (λ (c : ConnectorFront). inwards c.dir) ec ∙ inwards_is (connector m q.source.0) ∙ ap (λ (x : ℕ). is_in (connector m x)) same_source
 
       same-type : c.value_type ≡ (connector m (boundary_output m i).source).value_type
       unfolding connector_read
       same-type = ap (λ (c : ConnectorFront). c.value_type) ec ∙ ap (λ (x : ℕ). (connector m x).value_type) same_source
 
-      pub output-in : c.dir ≡ dir_in → None ≡ output_root m (boundary_output m i)
+      pub output-in : {t : Bool} → t ≡ inwards c.dir → t ≡ true → None ≡ output_root m (boundary_output m i)
       unfolding output_root sound
-      output-in e = rw (lt-ltb _ _ near, eq-eqb _ _ (sym same-dir ∙ e))
+      output-in h e = rw (lt-ltb _ _ near, sym (same-dir h) ∙ e)
 
-      module _ {k : ℕ} (d : c.dir ≡ dir_in → ⊥) (ek : k ≡ (boundary_output m i).attrs.kind) where
+      module _ {k : ℕ} {t : Bool} (h : t ≡ inwards c.dir) (d : t ≡ false) (ek : k ≡ (boundary_output m i).attrs.kind) where
         pub output-sound : k ≡ c.value_type → Some q.source ≡ output_root m (boundary_output m i)
         unfolding output_root sound output_read
         output-sound e =
-            rw (lt-ltb _ _ near, ne_eqb _ _ (λ x. d (same-dir ∙ x)), eq-eqb _ _ (sym ek ∙ e ∙ same-type))
+            rw (lt-ltb _ _ near, sym (same-dir h) ∙ d, eq-eqb _ _ (sym ek ∙ e ∙ same-type))
             (ap (λ (o : BoundaryOutputFront). Some o.source) eq)
 
         pub output-other : (k ≡ c.value_type → ⊥) → None ≡ output_root m (boundary_output m i)
         unfolding output_root sound
         output-other e =
-            rw (lt-ltb _ _ near, ne_eqb _ _ (λ x. d (same-dir ∙ x)), ne_eqb _ _ (λ x. e (ek ∙ x ∙ sym same-type)))
+            rw (lt-ltb _ _ near, sym (same-dir h) ∙ d, ne_eqb _ _ (λ x. e (ek ∙ x ∙ sym same-type)))
 
 -- link k is a connection, or else a boundary output
 module _ (m : Model) {n : ℕ} (en : n ≡ connection_count m) (k : ℕ) where

@@ -4,12 +4,12 @@
 ghost use Rattle.std.specs.Prelude.{◌≡◌, ◌+◌, ◌≤◌, ◌<◌, length};
 ghost use Rattle.oce_model.specs.Format.{most_connections, most_boundary_outputs};
 ghost use Rattle.oce_model.specs.Model.{model_of, connection, boundary_output, connector_count, connection_count, boundary_output_count};
-ghost use Rattle.structural_degrees.specs.Columns.{Degrees};
 ghost use Rattle.unify.specs.Clusters.{is_root};
 ghost use Rattle.unify_links.specs.Links.{link_count, connection_root, output_root, root_of, target_of, Empty, Headed, Linked, AllLinked, Gathered};
 
 use image_records::Image;
-use oce_model::{ConnectorId, Dir};
+use oce_model::ConnectorId;
+use structural_degrees::InDegrees;
 
 // The links of each root in lists, in fixed memory: `head` has the first link of each root, `next` the one
 // behind each link. A number that is no link's ends a list.
@@ -30,14 +30,14 @@ pub fn link_count(image: &Image) -> usize
 // ---- roots and targets
 
 // The root of connection k.
-fn connection_root(image: &Image, degrees: &[u32], k: usize) -> Option<ConnectorId>
-    requires { Degrees (model_of image.now) degrees.now × (k < connection_count (model_of image.now)) }
-    ensures { result ≡ connection_root (model_of image.now) (connection (model_of image.now) k) }
+fn connection_root(degrees: &InDegrees, k: usize) -> Option<ConnectorId>
+    requires { k < connection_count (model_of degrees.now) }
+    ensures { result ≡ connection_root (model_of degrees.now) (connection (model_of degrees.now) k) }
 {
+    let image = degrees.image();
     let n = image.connector_count();
     let c = image.connection(k);
-    let to = c.to.0 as usize;
-    if (c.from.0 as usize) < n && to < n && degrees[to] == 1 {
+    if (c.from.0 as usize) < n && (c.to.0 as usize) < n && degrees.degree(c.to) == 1 {
         Some(c.from)
     } else {
         None
@@ -54,9 +54,7 @@ fn output_root(image: &Image, i: usize) -> Option<ConnectorId>
         return None;
     }
     let c = image.connector(source);
-    if c.dir != Dir::In as usize
-        && usize::from(image.boundary_output_attrs(i).kind) == c.value_type
-    {
+    if !c.dir.is_in() && image.boundary_output_attrs(i).kind == c.value_type {
         Some(source)
     } else {
         None
@@ -64,13 +62,14 @@ fn output_root(image: &Image, i: usize) -> Option<ConnectorId>
 }
 
 // The root of link k.
-fn root_of(image: &Image, degrees: &[u32], k: usize) -> Option<ConnectorId>
-    requires { Degrees (model_of image.now) degrees.now × (k < link_count (model_of image.now)) }
-    ensures { result ≡ root_of (model_of image.now) k }
+fn root_of(degrees: &InDegrees, k: usize) -> Option<ConnectorId>
+    requires { k < link_count (model_of degrees.now) }
+    ensures { result ≡ root_of (model_of degrees.now) k }
 {
+    let image = degrees.image();
     let connections = image.connection_count();
     if k < connections {
-        connection_root(image, degrees, k)
+        connection_root(degrees, k)
     } else {
         output_root(image, k - connections)
     }
@@ -92,30 +91,24 @@ fn target_of(image: &Image, k: usize) -> usize
 // ---- the lists
 
 // Link k comes to the front of its root's list, if it has a root. The lists have all links behind it.
-fn link(image: &Image, degrees: &[u32], k: usize, head: &mut [usize], next: &mut [usize])
-    requires { Degrees (model_of image.now) degrees.now × (k < link_count (model_of image.now))
-        × Linked (model_of image.now) (k + 1) head.old next.old }
-    ensures { Linked (model_of image.now) k head.new next.new }
+fn link(degrees: &InDegrees, k: usize, head: &mut [usize], next: &mut [usize])
+    requires { (k < link_count (model_of degrees.now)) × Linked (model_of degrees.now) (k + 1) head.old next.old }
+    ensures { Linked (model_of degrees.now) k head.new next.new }
 {
-    if let Some(root) = root_of(image, degrees, k) {
+    if let Some(root) = root_of(degrees, k) {
         next[k] = head[root.0 as usize];
         head[root.0 as usize] = k;
     }
 }
 
 // The lists of all links, from the last to the first. `head` holds no link's number at first.
-pub fn link_all<'a>(
-    image: &Image,
-    degrees: &[u32],
-    head: &'a mut [usize],
-    next: &'a mut [usize],
-) -> Links<'a>
-    requires { Degrees (model_of image.now) degrees.now × Empty (model_of image.now) head.old
-        × (connector_count (model_of image.now) ≤ length head.old) × (link_count (model_of image.now) ≤ length next.old) }
-    ensures { AllLinked (model_of image.now) result }
+pub fn link_all<'a>(degrees: &InDegrees, head: &'a mut [usize], next: &'a mut [usize]) -> Links<'a>
+    requires { Empty (model_of degrees.now) head.old
+        × (connector_count (model_of degrees.now) ≤ length head.old) × (link_count (model_of degrees.now) ≤ length next.old) }
+    ensures { AllLinked (model_of degrees.now) result }
 {
-    for k in (0..link_count(image)).rev() {
-        link(image, degrees, k, head, next);
+    for k in (0..link_count(degrees.image())).rev() {
+        link(degrees, k, head, next);
     }
     Links { head, next }
 }

@@ -1,17 +1,22 @@
 -- `agreement::compare` meets its contract: by what the check answers and leaves.
 use borrow.Author.Rules.{rules}
+use mathlib.Core.Path.{ap, ◌∙◌}
+use Rattle.std.specs.Prelude.{Ok}
 use native.Mathlib.Omega.{arith}
-use Rattle.agreement.proofs.Laws.{check-leaves, compare-refused, compare-accepted, compare-results}
+use Rattle.agreement.proofs.Laws.{check-leaves, whole, accepted-refused, accepted-untold, accepted-told}
 use Rattle.agreement.proofs.compare.Goals as goal
 
-pub returns-then-oracle-ne0 : goal.returns-then-oracle-ne0
-returns-then-oracle-ne0 c = compare-accepted _ _ c.part_of-image.ensures _ _ c.check-answer.ensures.answer (search rules) (search rules) c.in-Checked.is c.if-oracle-ne0.true
+pub compare_results-requires : goal.compare_results-requires
+compare_results-requires c = let each = c.type_inv.file in check-leaves c.args.file.now c.args.stored (λ i. omega (arith, each i)) c.part_of-image.ensures _ _ c.check.ensures.answer c.check.ensures.moved c.in-Ok.is (search rules)
 
-pub results_agree-requires : goal.results_agree-requires
-results_agree-requires c = let each = c.type_inv.file in check-leaves c.args.file.now c.args.stored (λ i. omega (arith, each i)) c.part_of-image.ensures _ _ c.check-answer.ensures.answer c.check-answer.ensures.moved (search rules) (search rules)
+pub returns-in-Err : goal.returns-in-Err
+returns-in-Err c = c.compare_refusal.ensures ∙ whole _ _ _ _ c.part_of-image.ensures c.check.ensures.answer (search rules) (search rules) c.in-Err.is
 
-pub returns-in-Refused : goal.returns-in-Refused
-returns-in-Refused c = compare-refused _ _ c.part_of-image.ensures _ _ c.check-answer.ensures.answer (search rules) (search rules) (search rules) c.refusal_agrees.ensures
+pub returns-in-Err-answer : goal.returns-in-Err-answer
+returns-in-Err-answer c = accepted-refused _ _ _ c.in-Ok.counted (whole _ _ _ _ c.part_of-image.ensures c.check.ensures.answer (search rules) (search rules) c.in-Ok.is) c.in-Err-answer.is
 
-pub returns-else-oracle-ne0 : goal.returns-else-oracle-ne0
-returns-else-oracle-ne0 c = compare-results _ _ c.part_of-image.ensures _ _ c.check-answer.ensures.answer (search rules) (search rules) c.in-Checked.is c.if-oracle-ne0.false c.results_agree.ensures
+pub returns-in-None : goal.returns-in-None
+returns-in-None c = accepted-untold _ _ _ c.in-Ok.counted (whole _ _ _ _ c.part_of-image.ensures c.check.ensures.answer (search rules) (search rules) c.in-Ok.is) (c.in-Ok-answer.is ∙ ap Ok c.in-None.is)
+
+pub returns-in-Some : goal.returns-in-Some
+returns-in-Some c = accepted-told _ _ _ c.in-Ok.counted (whole _ _ _ _ c.part_of-image.ensures c.check.ensures.answer (search rules) (search rules) c.in-Ok.is) (c.in-Ok-answer.is ∙ ap Ok c.in-Some.is) c.compare_results.ensures

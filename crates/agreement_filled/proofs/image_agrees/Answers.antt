@@ -1,4 +1,4 @@
-use Rattle.std.proofs.Common.{◌≡◌, ◌≤◌, length, arith}
+use Rattle.std.proofs.Common.{◌≤◌, length, arith}
 use Rattle.oce_model.specs.Format.{longest_image}
 use Rattle.agreement_filled.proofs.Laws.{image-short, image-same}
 use Rattle.agreement_filled.proofs.image_agrees.Goals as goal

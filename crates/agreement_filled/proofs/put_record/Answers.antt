@@ -1,4 +1,4 @@
-use Rattle.std.proofs.Common.{◌<◌, ◌≤◌, arith, rules}
+use Rattle.std.proofs.Common.{◌<◌, ◌≤◌, arith}
 use Rattle.oce_model.specs.Model.{model_of}
 use Rattle.unify_slots.specs.Slots.{slot_count}
 use Rattle.agreement_filled.proofs.Laws.{none-put, none_left, one-put, one_left, one-fits}

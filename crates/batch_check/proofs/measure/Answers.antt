@@ -1,7 +1,7 @@
 -- `batch_check::measure` meets its contract: the images passed are kept, and their bytes counted.
 use Rattle.std.proofs.Common.{rules}
-use Rattle.batch_framing.proofs.Passes.{ahead-at, ahead-few}
-use Rattle.batch_check.proofs.Passes.{measuring-start, measuring-sum, measuring-turn, measuring-long, measuring-end}
+use Rattle.batch_framing.proofs.Passes.{ahead-at}
+use Rattle.batch_check.proofs.Passes.{measuring-start, measuring-kept, measuring-sum, measuring-turn, measuring-long, measuring-end}
 use Rattle.batch_check.proofs.measure.Goals as goal
 
 pub loop-f-init : goal.loop-f-init
@@ -11,7 +11,7 @@ pub measure_image-needed-requires : goal.measure_image-needed-requires
 measure_image-needed-requires c =
     let v = c.loop-f.invariant in
     let e = c.in-Some.ensures.steps in
-    (ahead-at v.ahead e, ahead-few v.ahead e, v.kept.long)
+    (ahead-at v.ahead e, measuring-kept v e)
 
 pub overflow_add-needed : goal.overflow_add-needed
 overflow_add-needed c = search (measuring-sum, rules)

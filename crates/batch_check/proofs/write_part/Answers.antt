@@ -1,16 +1,16 @@
--- `batch_check::write_part` meets its contract: one part of the output, by the summary that was kept.
-use borrow.Author.Rules.{rules}
-use Rattle.batch_check.proofs.Passes.{entry-summarized, entry-few, entry-room, entry-end, entry-bytes}
+-- `batch_check::write_part` meets its contract: one part of the output, by the answer that was kept.
+use Rattle.std.proofs.Common.{rules, arith}
+use Rattle.batch_check.proofs.Passes.{entry-is, entry-room, entry-end, entry-bytes}
 use Rattle.batch_check.proofs.write_part.Goals as goal
 
 pub write_image-requires : goal.write_image-requires
-write_image-requires c = search (entry-summarized, entry-room, rules)
-
-pub size_of-requires : goal.size_of-requires
-size_of-requires c = search (entry-few, rules)
+write_image-requires c = (search (entry-is, rules), search (entry-room, rules))
 
 pub overflow_add-result : goal.overflow_add-result
-overflow_add-result c = search (entry-few, rules)
+overflow_add-result c = let e = entry-end _ c.args.o c.requires.1 c.size_of.ensures in let r = c.requires.2 in omega arith
 
-pub returns : goal.returns
-returns c = search (entry-end, entry-bytes, rules)
+pub returns-clause-end : goal.returns-clause-end
+returns-clause-end c = search (entry-end, rules)
+
+pub returns-clause-output : goal.returns-clause-output
+returns-clause-output c = search (entry-bytes, rules)

@@ -6,8 +6,8 @@ use Rattle.batch_image.proofs.write_image.Goals as goal
 pub put_field-requires : goal.put_field-requires
 put_field-requires c = search (field_room, rules)
 
-pub returns-then-total_of-eq0 : goal.returns-then-total_of-eq0
-returns-then-total_of-eq0 c = search (image-bare, rules)
+pub returns-then-count_of-eq0 : goal.returns-then-count_of-eq0
+returns-then-count_of-eq0 c = search (image-bare, rules)
 
 pub slice_bounds-summarize_into-count : goal.slice_bounds-summarize_into-count
 slice_bounds-summarize_into-count c = search (behind-field, rules)

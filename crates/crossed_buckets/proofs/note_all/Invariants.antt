@@ -4,4 +4,4 @@ use Rattle.crossed_buckets.proofs.Laws.{Notes}
 use Rattle.crossed_buckets.proofs.note_all.Given as goal
 
 abbrev pub invariant-loop-x : goal.invariant-loop-x
-invariant-loop-x l = Notes (model_of l.image) l.initial.members l.members l.known l.x
+invariant-loop-x l = Notes (model_of l.externals) l.initial.members l.members l.known l.x

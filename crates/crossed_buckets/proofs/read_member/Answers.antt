@@ -1,13 +1,13 @@
 -- A member that takes part has its bucket, another none.
+use Rattle.std.proofs.Common.{◌∙◌, ap}
+use Rattle.oce_model.specs.Model.{model_of, text}
 use Rattle.crossed_buckets.proofs.Laws.{joins-value, stays-value}
 use Rattle.crossed_buckets.proofs.read_member.Goals as goal
-use Rattle.crossed_buckets.proofs.read_member.Goals.{then-member_joins, else-member_joins}
 
-pub returns : goal.returns
-returns c =
-    let iri = c.member_iri-i.ensures.0 in
-    let joins = c.member_joins.ensures in
-    elim c.if-member_joins.branch [
-      | then-member_joins w ↦ rw w.bucket-is (joins-value _ _ iri w.text.ensures w.bucket_of.ensures.0 joins w.if-member_joins.true)
-      | else-member_joins w ↦ rw w.bucket-is (stays-value _ _ iri joins w.if-member_joins.false)
-    ]
+pub returns-then-member_joins : goal.returns-then-member_joins
+returns-then-member_joins c =
+    let read = c.text.ensures ∙ ap (text (model_of c.args.image.now)) c.from.ensures in
+    joins-value _ _ c.member_iri-i.ensures read c.bucket_of.ensures.0 c.member_joins.ensures c.if-member_joins.true
+
+pub returns-else-member_joins : goal.returns-else-member_joins
+returns-else-member_joins c = stays-value _ _ c.member_iri-i.ensures c.member_joins.ensures c.if-member_joins.false

@@ -14,12 +14,12 @@ report_groups-requires c =
     let found = c.collect_crowded-k.ensures.records in
     let order = c.sort.ensures in
     let few = front-few _ _ order found.1 in
-    (pre.0, members-sorted _ _ order _ (collected-below (model_of c.args.image.now) found.0), omega (arith, few, pre.4), omega (arith, few, pre.5))
+    (members-sorted _ _ order _ (collected-below (model_of c.args.externals.now) found.0), omega (arith, few, pre.3), omega (arith, few, pre.4))
 
 pub returns : goal.returns
 returns c =
-    let m = model_of c.args.image.now in
+    let m = model_of c.args.externals.now in
     let found = c.collect_crowded-k.ensures in
     let order = c.sort.ensures in
-    let key = sorted-key c.args.image.now found.members _ order in
+    let key = sorted-key c.args.externals.now found.members c.image.ensures _ order in
     puts-more c.report_groups.ensures (front-few _ _ order found.records.1) (ap (λ l. groups_faults m (runs (member_key m) l)) key ∙ collected-faults m found.records.0)

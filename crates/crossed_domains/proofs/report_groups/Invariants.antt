@@ -5,4 +5,4 @@ use Rattle.crossed_domains.proofs.Reporting.{MembersPassed}
 use Rattle.crossed_domains.proofs.report_groups.Given as goal
 
 abbrev pub invariant-loop-y : goal.invariant-loop-y
-invariant-loop-y l = MembersPassed (model_of l.image) (member_count (model_of l.image)) l.x l.rest l.initial.report l.report l.p l.y-index
+invariant-loop-y l = MembersPassed (model_of l.externals) (member_count (model_of l.externals)) l.x l.rest l.initial.report l.report l.p l.y-index

@@ -5,10 +5,10 @@ use Rattle.crossed_bounds.specs.CrossedBounds.{connector_crossed, input_crossed,
 use Rattle.crossed_records.proofs.check_crossed_bounds.Given as goal
 
 abbrev pub invariant-connectors : goal.invariant-connectors
-invariant-connectors l = Turns (connector_crossed (model_of l.image)) 1 l.initial.report l.report l.i
+invariant-connectors l = Turns (connector_crossed (model_of l.externals)) 1 l.initial.report l.report l.i
 
 abbrev pub invariant-inputs : goal.invariant-inputs
-invariant-inputs l = Turns (input_crossed (model_of l.image)) 1 l.initial.report l.report l.i
+invariant-inputs l = Turns (input_crossed (model_of l.externals)) 1 l.initial.report l.report l.i
 
 abbrev pub invariant-outputs : goal.invariant-outputs
-invariant-outputs l = Turns (output_crossed (model_of l.image)) 1 l.initial.report l.report l.i
+invariant-outputs l = Turns (output_crossed (model_of l.externals)) 1 l.initial.report l.report l.i

@@ -1,29 +1,28 @@
--- `image_accept::accept` meets its contract: length, then one pass, then refusal by refusal.
-use borrow.Author.Rules.{rules}
-use Rattle.oce_model.specs.Format.{most}
-use Rattle.image_accept.proofs.Answers.{too_short, too_long, answer-refused, short-table, long-table, survey-answer, survey-table}
+-- `accept` meets its contract: the length, the one pass, then the refusals.
+use mathlib.Core.Path.{refl, sym, ◌∙◌}
+use Rattle.oce_model.specs.Format.{text_tag, block_tag}
+use Rattle.image_accept.proofs.Answers.{answer-sized, good-size, is-refused, same-error, table-sized}
 use Rattle.image_accept.proofs.accept.Goals as goal
 
-pub returns-then-image-lt-SHORTEST_IMAGE : goal.returns-then-image-lt-SHORTEST_IMAGE
-unfolding most
-returns-then-image-lt-SHORTEST_IMAGE c = search (answer-refused, too_short, short-table, rules)
+pub returns-then-bad_size-clause-answer : goal.returns-then-bad_size-clause-answer
+returns-then-bad_size-clause-answer c = answer-sized c.args.image.now c.bad_size.ensures c.if-bad_size.true
 
-pub returns-then-image-gt-LONGEST_IMAGE : goal.returns-then-image-gt-LONGEST_IMAGE
-unfolding most
-returns-then-image-gt-LONGEST_IMAGE c = search (answer-refused, too_long, long-table, rules)
+pub returns-then-bad_size-clause-texts : goal.returns-then-bad_size-clause-texts
+returns-then-bad_size-clause-texts c = table-sized c.args.image.now c.bad_size.ensures text_tag _ c.if-bad_size.true
 
-pub survey-found-requires : goal.survey-found-requires
-unfolding most
-survey-found-requires c = search rules
+pub returns-then-bad_size-clause-blocks : goal.returns-then-bad_size-clause-blocks
+returns-then-bad_size-clause-blocks c = table-sized c.args.image.now c.bad_size.ensures block_tag _ c.if-bad_size.true
 
-pub returns-then-found : goal.returns-then-found
-unfolding most
-returns-then-found c = search (survey-answer, survey-table, rules)
+pub survey-requires : goal.survey-requires
+survey-requires c = good-size c.args.image.now c.bad_size.ensures c.if-bad_size.false
 
-pub try_refusals-requires : goal.try_refusals-requires
-unfolding most
-try_refusals-requires c = search rules
+pub refuse_image-requires : goal.refuse_image-requires
+refuse_image-requires c = good-size c.args.image.now c.bad_size.ensures c.if-bad_size.false
 
-pub returns : goal.returns
-unfolding most
-returns c = search rules
+pub unwrap_err-requires : goal.unwrap_err-requires
+unwrap_err-requires c = rw (is-refused c.args.image.now c.in-None.ensures.layout c.refuse_image.ensures).is refl
+
+pub returns-in-None-clause-answer : goal.returns-in-None-clause-answer
+returns-in-None-clause-answer c =
+    let w = is-refused c.args.image.now c.in-None.ensures.layout c.refuse_image.ensures in
+    same-error (sym c.unwrap_err.ensures ∙ w.is) ∙ w.answer

@@ -1,19 +1,22 @@
--- `image_framing::first_fault` meets its contract: none of the fields passed is at fault.
-use Rattle.std.proofs.Common.{rules}
-use Rattle.image_framing.proofs.Finds.{searching-start, searching-fits, searching-next, searching-found, searching-end}
+-- `image_framing::first_fault` meets its contract: none of the fields passed passes the test.
+use native.Mathlib.Omega.{arith}
+use Rattle.image_framing.proofs.Finds.{hunting-start, hunting-fits, hunting-next, hunting-found, hunting-end}
 use Rattle.image_framing.proofs.first_fault.Goals as goal
 
 pub loop-f-init : goal.loop-f-init
-loop-f-init c = searching-start _ cc
+loop-f-init g c = hunting-start cc
 
-pub is_at_fault-requires : goal.is_at_fault-requires
-is_at_fault-requires c = search (searching-fits, rules)
+pub test-requires : goal.test-requires
+test-requires g c = c.requires c.in-Some.f (hunting-fits c.loop-f.invariant c.in-Some.ensures.steps)
 
-pub returns-then-is_at_fault : goal.returns-then-is_at_fault
-returns-then-is_at_fault c = search (searching-found, rules)
+pub returns-then-test-clause-first : goal.returns-then-test-clause-first
+returns-then-test-clause-first g c = hunting-found c.loop-f.invariant c.in-Some.ensures.steps c.test.ensures c.if-test.true
+
+pub returns-then-test-clause-inside : goal.returns-then-test-clause-inside
+returns-then-test-clause-inside g c = omega (arith, hunting-fits c.loop-f.invariant c.in-Some.ensures.steps)
 
 pub loop-f-preserved : goal.loop-f-preserved
-loop-f-preserved c = searching-next c.loop-f.invariant c.in-Some.ensures.steps c.is_at_fault.ensures c.if-is_at_fault.false
+loop-f-preserved g c = hunting-next c.loop-f.invariant c.in-Some.ensures.steps c.test.ensures c.if-test.false
 
-pub returns : goal.returns
-returns c = search (searching-end, rules)
+pub returns-clause-first : goal.returns-clause-first
+returns-clause-first g c = hunting-end c.loop-f.invariant c.in-None.ensures.steps.0

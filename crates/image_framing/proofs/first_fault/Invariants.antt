@@ -1,7 +1,6 @@
--- `image_framing::first_fault` meets its contract: none of the fields passed is at fault.
-use Rattle.oce_model.specs.Refusals.{fault}
-use Rattle.image_framing.proofs.Finds.{Searching}
+-- `image_framing::first_fault` meets its contract: none of the fields passed passes the test.
+use Rattle.image_framing.proofs.Finds.{Hunting}
 use Rattle.image_framing.proofs.first_fault.Given as goal
 
 abbrev pub invariant-loop-f : goal.invariant-loop-f
-invariant-loop-f l = Searching (fault l.k l.n l.s) l.s l.f-iterator
+invariant-loop-f g l = Hunting (goal.F-post g l.test) l.s l.f-iterator

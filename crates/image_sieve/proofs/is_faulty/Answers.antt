@@ -1,10 +1,10 @@
--- `image_sieve::is_faulty` meets its contract: each tag.
+-- `is_faulty` meets its contract: its length, then the rest.
 use borrow.Author.Rules.{rules}
-use Rattle.image_sieve.proofs.Laws.{connection-are, external-are}
+use Rattle.image_sieve.proofs.Laws.{long, all-are}
 use Rattle.image_sieve.proofs.is_faulty.Goals as goal
 
-pub returns-then-f-eq-CONNECTION_TAG : goal.returns-then-f-eq-CONNECTION_TAG
-returns-then-f-eq-CONNECTION_TAG c = search (connection-are, rules)
+pub returns-then-bad_length : goal.returns-then-bad_length
+returns-then-bad_length c = search (long, rules)
 
-pub returns-then-f-eq-EXTERNAL_INPUT_TAG : goal.returns-then-f-eq-EXTERNAL_INPUT_TAG
-returns-then-f-eq-EXTERNAL_INPUT_TAG c = search (external-are, rules)
+pub returns-else-bad_length : goal.returns-else-bad_length
+returns-else-bad_length c = search (all-are, rules)

@@ -7,4 +7,4 @@ pub returns : goal.returns
 returns c =
     let a = c.args in
     eight-same a.a.now a.b.now (λ k. omega (arith, c.type_inv.a k)) (λ k. omega (arith, c.type_inv.b k)) a.i _ _ c.requires.0 c.requires.1
-    c.read64.ensures c.read64-2.ensures
+    c.read.ensures c.read-2.ensures

@@ -1,7 +1,7 @@
 -- `oce_capi::oce_check_batch` meets its contract: that of the checking call for a batch, with the answer in numbers.
-use borrow.Author.Rules.{rules}
-use Rattle.oce_capi.proofs.Laws.{batch-numbers}
+use mathlib.Core.Path.{ap, ◌∙◌}
+use Rattle.oce_capi.specs.Numbers.{three_numbers}
 use Rattle.oce_capi.proofs.oce_check_batch.Goals as goal
 
-pub returns : goal.returns
-returns c = search (batch-numbers, rules)
+pub returns-clause-answer : goal.returns-clause-answer
+returns-clause-answer c = c.in_three_numbers.ensures ∙ ap three_numbers c.check_batch.ensures.answer

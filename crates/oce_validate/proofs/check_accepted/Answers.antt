@@ -1,4 +1,4 @@
-use Rattle.std.proofs.Common.{◌<◌, length, rules}
+use Rattle.std.proofs.Common.{◌<◌, length}
 use Rattle.oce_validate.proofs.Laws.{image-small, short-filled}
 use Rattle.oce_validate.proofs.check_accepted.Goals as goal
 

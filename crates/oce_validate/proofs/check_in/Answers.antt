@@ -1,4 +1,4 @@
-use Rattle.std.proofs.Common.{arith, rules}
+use Rattle.std.proofs.Common.{arith}
 use Rattle.oce_validate.proofs.check_in.Goals as goal
 
 pub whole_as_front-check_over : goal.whole_as_front-check_over

@@ -6,8 +6,8 @@ use Rattle.print_batch.proofs.print_batch.Goals as goal
 pub print_images-requires : goal.print_images-requires
 print_images-requires g c = search (left, rules)
 
-pub returns-in-Refused-clause-printed : goal.returns-in-Refused-clause-printed
-returns-in-Refused-clause-printed g c = rw (printed-refused _ _ c.check_batch.ensures.answer c.in-Refused.is) c.print_refusal.ensures
+pub returns-in-Err-clause-printed : goal.returns-in-Err-clause-printed
+returns-in-Err-clause-printed g c = rw (printed-refused _ _ c.check_batch.ensures.answer c.in-Err.is) c.print_refusal.ensures
 
-pub returns-in-Written-clause-printed : goal.returns-in-Written-clause-printed
-returns-in-Written-clause-printed g c = rw (printed-written _ _ c.check_batch.ensures.answer c.in-Written.is) c.print_images.ensures
+pub returns-in-Ok-clause-printed : goal.returns-in-Ok-clause-printed
+returns-in-Ok-clause-printed g c = rw (printed-written _ _ c.check_batch.ensures.answer c.in-Ok.is) c.print_images.ensures

@@ -4,21 +4,22 @@ use Rattle.oce_diag.specs.Encoding.{diagnostic_size}
 use Rattle.oce_diag.specs.Decoded.{decoded_at, diagnostic_at}
 use Rattle.reader.specs.Reading.{Reads}
 use Rattle.reader.specs.declared.Found.{Found}
+use Rattle.reader.specs.declared.Reader.{Reader}
 use Rattle.printed.specs.Pieces.{Row}
 use Rattle.printed.proofs.Laws.{printing_start, printing_turn, printing_full}
 use Rattle.printed.proofs.put_lines.Goals as goal
 
 -- what is read in a row is the diagnostic there
-module _ {report : List ℕ} {count i : ℕ} (row : Row report count) (h : i < count) {f : Found} {rest : List ℕ} {behind : ℕ} (read : Reads report (diagnostic_size * i) (Some f) rest behind) where
+module _ {report : List ℕ} {count i : ℕ} (row : Row report count) (h : i < count) {f : Found} {r rest : Reader} (read : Reads r (Some f) rest) (over : r.image.now ≡ report) (stands : r.at ≡ diagnostic_size * i) where
   here : f.at ≡ diagnostic_size * i
-  here = let e = read.found in let n = row.found i h in cc
+  here = let e = rw (over, stands) at read.found in let n = row.found i h in cc
 
   decoded : decoded_at report f.at ≡ diagnostic_at report i
   unfolding diagnostic_at
   decoded = rw here
 
-  next : behind ≡ diagnostic_size * (i + 1)
-  next = read.place ∙ row.after i h
+  next : rest.at ≡ diagnostic_size * (i + 1)
+  next = rw (over, stands) at read.place ∙ row.after i h
 
 pub loop-i-init : goal.loop-i-init
 loop-i-init g c = record { so_far = printing_start _ _ _ _; report = refl; place = refl }
@@ -28,7 +29,9 @@ returns-then-remaining_capacity-lt-LONGEST_LINE g c = printing_full c.loop-i.inv
 
 pub loop-i-preserved : goal.loop-i-preserved
 loop-i-preserved g c =
-    let read = rw (c.loop-i.invariant.report, c.loop-i.invariant.place) at c.in-Some.ensures.steps in
+    let read = c.in-Some.ensures.steps in
+    let over = c.loop-i.invariant.report in
+    let stands = c.loop-i.invariant.place in
     let left : c.loop-i.i < c.args.count = omega arith in
-    let same : c.decode.result ≡ diagnostic_at c.args.report.now c.loop-i.i = c.decode.ensures ∙ decoded c.requires.4 left read in
-    record { so_far = printing_turn c.loop-i.invariant.so_far (rw same at c.put_line.ensures); report = read.image; place = next c.requires.4 left read }
+    let same : c.decode.result ≡ diagnostic_at c.args.report.now c.loop-i.i = c.decode.ensures ∙ decoded c.requires.2 left read over stands in
+    record { so_far = printing_turn c.loop-i.invariant.so_far (rw same at c.put_line.ensures); report = rw read.image over; place = next c.requires.2 left read over stands }

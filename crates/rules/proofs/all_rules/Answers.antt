@@ -1,10 +1,10 @@
-use Rattle.std.proofs.Common.{◌∙◌, arith, rules}
+use Rattle.std.proofs.Common.{◌∙◌}
 use Rattle.oce_model.specs.Model.{model_of}
 use Rattle.rules.proofs.Laws.{ran}
 use Rattle.rules.proofs.all_rules.Goals as goal
 
 pub returns : goal.returns
 returns c = record {
-  ran = ran (model_of c.args.image.now) c.requires.start.1 c.requires.start.0 c.rules_before_6.ensures c.unify_clusters.ensures;
+  ran = ran (model_of c.args.degrees.now) c.requires.start.1 c.requires.start.0 c.rules_before_6.ensures c.unify_clusters.ensures;
   same = c.unify_clusters.ensures.puts.same ∙ c.rules_before_6.ensures.same;
 }

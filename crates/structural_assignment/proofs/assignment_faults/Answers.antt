@@ -1,10 +1,18 @@
 -- An input or an output.
-use borrow.Author.Rules.{rules}
+use Rattle.std.proofs.Common.{ap, ◌∙◌}
+use Rattle.oce_model.specs.Model.{model_of, connector}
+use Rattle.structural.specs.Degrees.{external}
+use Rattle.image_records.specs.Records.{connector_read}
 use Rattle.structural_assignment.proofs.Laws.{not-assigned, assigned}
 use Rattle.structural_assignment.proofs.assignment_faults.Goals as goal
 
-pub returns-then-c : goal.returns-then-c
-returns-then-c c = search (assigned, rules)
+pub returns-then-is_in : goal.returns-then-is_in
+returns-then-is_in c =
+    let e = c.connector-c.ensures ∙ ap (λ s. connector_read (connector (model_of s) c.args.i.0)) c.image.ensures in
+    assigned _ _ e c.is_in.ensures c.if-is_in.true c.subject_of-subject.ensures c.degree-d.ensures
+    (c.contains-outside.ensures ∙ ap (λ s. external (model_of s) c.connector-c.result.id.0) c.requires.0) c.none_or_many.ensures
 
-pub returns-else-c : goal.returns-else-c
-returns-else-c c = search (not-assigned, rules)
+pub returns-else-is_in : goal.returns-else-is_in
+returns-else-is_in c =
+    let e = c.connector-c.ensures ∙ ap (λ s. connector_read (connector (model_of s) c.args.i.0)) c.image.ensures in
+    not-assigned _ _ e c.is_in.ensures c.if-is_in.false

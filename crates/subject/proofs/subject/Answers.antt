@@ -1,14 +1,13 @@
--- `subject::subject` meets its contract: nothing of a refused image, otherwise the part.
-use borrow.Author.Rules.{rules}
-use Rattle.image_accept.proofs.Answers.{accepted-laid, accepted-tabled}
-use Rattle.subject.proofs.Laws.{refused-read, accepted-read}
+-- Nothing of a refused image, otherwise the part.
+use Rattle.std.proofs.Common.{refl}
+use Rattle.subject.specs.Subject.{part}
+use Rattle.subject.proofs.Laws.{part-from}
 use Rattle.subject.proofs.subject.Goals as goal
 
-pub subject_part-requires : goal.subject_part-requires
-subject_part-requires c = search (accepted-laid, accepted-tabled, rules)
+pub returns-in-Ok : goal.returns-in-Ok
+unfolding part
+returns-in-Ok c = rw (c.in-Ok.ensures.1, c.accepted_subject.ensures, c.in-Ok.ensures.0, c.subject_from.ensures) (part-from _ _ _ _)
 
-pub returns-in-Refused : goal.returns-in-Refused
-returns-in-Refused c = search (refused-read, rules)
-
-pub returns-in-Accepted : goal.returns-in-Accepted
-returns-in-Accepted c = search (accepted-read, rules)
+pub returns-in-Err : goal.returns-in-Err
+unfolding part
+returns-in-Err c = rw c.in-Err.ensures refl

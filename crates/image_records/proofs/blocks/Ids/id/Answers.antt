@@ -21,11 +21,11 @@ overflow_mul-j c = let k = one-of _ _ _ _ c.self.view_is c.requires in omega ari
 pub overflow_add-self-inside : goal.overflow_add-self-inside
 overflow_add-self-inside c = let k = one-of _ _ _ _ c.self.view_is c.requires in omega arith
 
-pub read32-requires : goal.read32-requires
-read32-requires c = port-held _ _ _ _ (one-of _ _ _ _ c.self.view_is c.requires) c.self.invariant.2
+pub read-requires : goal.read-requires
+read-requires c = port-held _ _ _ _ (one-of _ _ _ _ c.self.view_is c.requires) c.self.invariant.2
 
 pub returns : goal.returns
 unfolding ids_at
 returns c =
     let k = one-of _ _ _ _ c.self.view_is c.requires in
-    (rw (← c.self.view_is) (c.read32.ensures.0 ∙ sym (port-is c.self.inside.bytes.now c.self.inside.at c.self.inside.count c.args.j k)), c.read32.ensures.1)
+    rw (← c.self.view_is) (c.read.ensures ∙ sym (port-is c.self.inside.bytes.now c.self.inside.at c.self.inside.count c.args.j k))

@@ -11,4 +11,4 @@ pub block_at-requires : goal.block_at-requires
 block_at-requires c = block-stands c.self.view_is c.self.invariant.0 c.self.invariant.2 c.requires
 
 pub returns : goal.returns
-returns c = (c.block_at.ensures.0 ∙ ap block_value (block-there c.self.view_is c.self.invariant.0 c.self.invariant.2 c.requires), c.block_at.ensures.1)
+returns c = c.block_at.ensures ∙ ap block_value (block-there c.self.view_is c.self.invariant.0 c.self.invariant.2 c.requires)

@@ -5,13 +5,13 @@ use Rattle.image_records.proofs.image.Image.boundary_output.Goals as goal
 pub record_at-at-requires : goal.record_at-at-requires
 record_at-at-requires c = output-near c.self.invariant.0 (an-output c.self.view_is c.self.invariant.0 c.requires)
 
-pub read16-requires : goal.read16-requires
-read16-requires c = output-inside c.self.invariant.0 (an-output c.self.view_is c.self.invariant.0 c.requires) c.record_at-at.ensures.0
+pub read-requires : goal.read-requires
+read-requires c = output-inside c.self.invariant.0 (an-output c.self.view_is c.self.invariant.0 c.requires) c.record_at-at.ensures.0
 
-pub read32-requires : goal.read32-requires
-read32-requires c = output-source c.self.invariant.0 (an-output c.self.view_is c.self.invariant.0 c.requires) c.record_at-at.ensures.0
+pub read-requires-2 : goal.read-requires-2
+read-requires-2 c = output-source c.self.invariant.0 (an-output c.self.view_is c.self.invariant.0 c.requires) c.record_at-at.ensures.0
 
 pub returns : goal.returns
 returns c =
     let k = an-output c.self.view_is c.self.invariant.0 c.requires in
-    (rw (← c.self.view_is) (output-read c.self.invariant.0 k c.record_at-at.ensures.0 c.read16.ensures.0 c.read32.ensures.0), c.read16.ensures.1)
+    rw (← c.self.view_is) (output-read c.self.invariant.0 k c.record_at-at.ensures.0 c.read.ensures c.read-2.ensures)

@@ -11,4 +11,4 @@ connector_at-requires c = (c.record_at.ensures.1, connector-inside c.self.invari
 pub returns : goal.returns
 returns c =
     let k = a-connector c.self.view_is c.self.invariant.0 c.requires in
-    (rw (← c.self.view_is) (connector-read c.self.invariant.0 k c.record_at.ensures.0 c.connector_at.ensures.0), c.connector_at.ensures.1)
+    rw (← c.self.view_is) (connector-read c.self.invariant.0 k c.record_at.ensures.0 c.connector_at.ensures)
