@@ -25,6 +25,7 @@ use Rattle.moved.specs.Moved.{Moved}
 use Rattle.moved.proofs.Bytes.{Bytes}
 use Rattle.moved.proofs.Moved.{checks}
 use Rattle.printed.proofs.Rules.{report_of-fits}
+use Rattle.stored.specs.Files.{said}
 use Rattle.stored.specs.declared.Results.{Results}
 use Rattle.stored.specs.declared.Record.{Record}
 use Rattle.agreement_diagnostics.specs.Diagnostics.{compared, Reported}
@@ -110,11 +111,11 @@ whole f r room many es ea er em e = rw (← e, ea, er, em, es)
 
 -- an image that is accepted here
 module _ (f : List ℕ) (r : Record) (s : List ℕ) (c : Counted) (w : agreement_with f r s (Ok c) ≡ agreement f r) where
-  pub accepted-refused : {x : Refusal} → r.answer ≡ Err x → Err (Refusals None) ≡ agreement f r
+  pub accepted-refused : {x : Refusal} → said r.answer ≡ Err x → Err (Refusals None) ≡ agreement f r
   accepted-refused e = sym (ap (accepted_agreement f r.end s) e) ∙ w
 
-  pub accepted-untold : r.answer ≡ Ok None → Ok tt ≡ agreement f r
+  pub accepted-untold : said r.answer ≡ Ok None → Ok tt ≡ agreement f r
   accepted-untold e = sym (ap (accepted_agreement f r.end s) e) ∙ w
 
-  pub accepted-told : {t : Results} {x : Agreement} → r.answer ≡ Ok (Some t) → x ≡ results_agreement f r.end t s → x ≡ agreement f r
+  pub accepted-told : {t : Results} {x : Agreement} → said r.answer ≡ Ok (Some t) → x ≡ results_agreement f r.end t s → x ≡ agreement f r
   accepted-told e g = g ∙ sym (ap (accepted_agreement f r.end s) e) ∙ w

@@ -1,6 +1,6 @@
 -- Whether what a check of a stored image gives agrees with the stored answer, and if not, what differs first: docs/STORED_ANSWERS.md, 'What is compared'.
 use Rattle.std.specs.Prelude.{ℕ, ◌≤◌, ◌≡◌, Bool, cond, ◌&&◌, List, eqb, length, take, drop}
-use Rattle.std.specs.Prelude.{None, Some, Result, Ok, Err}
+use Rattle.std.specs.Prelude.{Option, None, Some, Result, Ok, Err}
 use Rattle.oce_model.specs.Format.{longest_image}
 use Rattle.oce_model.specs.Refusals.{refusal}
 use Rattle.oce_model.specs.declared.Refusal.{Refusal}
@@ -8,7 +8,7 @@ use Rattle.oce_diag.specs.Diagnostics.{errors, warnings}
 use Rattle.oce_diag.specs.declared.Counted.{Counted}
 use Rattle.outcome.specs.Filled.{filled_of}
 use Rattle.outcome.specs.Answer.{Answer, report_of, answer}
-use Rattle.stored.specs.Files.{Answer as Stored}
+use Rattle.stored.specs.Files.{said}
 use Rattle.stored.specs.declared.Results.{Results}
 use Rattle.stored.specs.declared.Record.{Record}
 use Rattle.agreement_diagnostics.specs.Diagnostics.{compared, Reported}
@@ -28,8 +28,8 @@ longest_report = 131072
 abbrev pub same_refusal : Refusal → Refusal → Bool
 same_refusal r here = eqb r.number here.number && eqb r.offset here.offset
 
--- a refusal here beside a stored answer
-abbrev pub refusal_agreement : Stored → Refusal → Agreement
+-- a refusal here beside what a stored answer says
+abbrev pub refusal_agreement : Result (Option Results) Refusal → Refusal → Agreement
 refusal_agreement (Err r) here = cond (same_refusal r here) (Ok tt) (Err (Refusals (Some here)))
 refusal_agreement (Ok told) here = Err (Refusals (Some here))
 
@@ -44,16 +44,16 @@ results_agreement f end t s =
     cond (eqb t.counted.errors (errors (report_of s)) && eqb t.counted.warnings (warnings (report_of s)))
     (filled_agreement f end t s (compared f t.diagnostics s (report_of s))) (Err Counts)
 
--- an image that is accepted here beside a stored answer: the results, where they are told
-abbrev pub accepted_agreement : List ℕ → ℕ → List ℕ → Stored → Agreement
+-- an image that is accepted here beside what a stored answer says: the results, where they are told
+abbrev pub accepted_agreement : List ℕ → ℕ → List ℕ → Result (Option Results) Refusal → Agreement
 accepted_agreement f end s (Err r) = Err (Refusals None)
 accepted_agreement f end s (Ok None) = Ok tt
 accepted_agreement f end s (Ok (Some t)) = results_agreement f end t s
 
 -- a record beside an answer of the check
 abbrev pub agreement_with : List ℕ → Record → List ℕ → Answer → Agreement
-agreement_with f r s (Err here) = refusal_agreement r.answer here
-agreement_with f r s (Ok c) = accepted_agreement f r.end s r.answer
+agreement_with f r s (Err here) = refusal_agreement (said r.answer) here
+agreement_with f r s (Ok c) = accepted_agreement f r.end s (said r.answer)
 
 -- the image of a stored record of the file f
 abbrev pub image_of : List ℕ → Record → List ℕ

@@ -3,6 +3,7 @@
 #![tactic(auto)]
 
 ghost use Rattle.std.specs.Prelude.{◌≡◌, length};
+ghost use Rattle.stored.specs.Files.{said};
 ghost use Rattle.agreement.specs.Agreement.{refusal_agreement, results_agreement, agreement, Leaves};
 
 use agreement_diagnostics::compare_diagnostics;
@@ -30,9 +31,9 @@ pub enum Difference {
 // A refusal here beside the stored answer.
 #[tactic(auto, unfolding(crate::specs::Agreement::same_refusal))]
 fn compare_refusal(stored: Answer, here: Refusal) -> Result<(), Difference>
-    ensures { result ≡ refusal_agreement stored here }
+    ensures { result ≡ refusal_agreement (said stored) here }
 {
-    match stored {
+    match stored.said() {
         Err(refusal) if refusal == here => Ok(()),
         _ => Err(Difference::Refusal(Some(here))),
     }
@@ -76,7 +77,7 @@ pub fn compare(file: &[u8], stored: Record) -> Result<(), Difference>
     let image = part_of(file, stored.image, stored.len);
     match check(image, &mut filled, &mut report) {
         Err(refusal) => compare_refusal(stored.answer, refusal),
-        Ok(counted) => match stored.answer {
+        Ok(counted) => match stored.answer.said() {
             Err(_) => Err(Difference::Refusal(None)),
             Ok(told) => match told {
                 Some(results) => {

@@ -87,7 +87,7 @@ impl fmt::Display for Told {
 fn print_difference<P: Print>(to: &P, name: &[u8], k: usize, r: Record, found: Difference) {
     match found {
         Difference::Refusal(here) => {
-            let oracle = Told(r.answer.err());
+            let oracle = Told(Some(r.answer.refusal));
             let here = Told(here);
             print_line(
                 to,
@@ -134,7 +134,7 @@ fn replay_record<P: Print>(to: &P, name: &[u8], file: &[u8], k: usize, r: Record
     }
     Sum {
         images: 1,
-        refused: u64::from(r.answer.is_err()),
+        refused: u64::from(r.answer.refusal.number != 0),
         differ: u64::from(found.is_err()),
         failed: 0,
     }

@@ -1,8 +1,9 @@
 -- Files of stored answers, as docs/STORED_ANSWERS.md has them.
-use Rattle.std.specs.Prelude.{ℕ, ◌+◌, Bool, ◌&&◌, cond, List, eqb, leb, length, Option, Some, None, Result, Ok, Err}
+use Rattle.std.specs.Prelude.{ℕ, ◌+◌, Bool, not, ◌&&◌, cond, List, eqb, leb, length, Option, Some, None, Result, Ok, Err}
 use Rattle.numbers.specs.Bytes.{byte, le32}
 use Rattle.oce_model.specs.declared.Refusal.{Refusal}
 use Rattle.stored.specs.declared.Results.{Results}
+use Rattle.stored.specs.declared.Answer.{Answer}
 use Rattle.stored.specs.declared.Record.{Record}
 
 -- ---- a file: magic, version, number of records, then the records
@@ -51,9 +52,9 @@ filled_at = 16
 abbrev pub answer_length : ℕ
 answer_length = 20
 
--- an image is accepted, with its results where they are told, or refused
-abbrev pub Answer : Type 0
-Answer = Result (Option Results) Refusal
+-- what an answer says: an image is accepted, with its results where they are told, or refused; number 0 is no refusal
+abbrev pub said : Answer → Result (Option Results) Refusal
+said a = cond (eqb a.refusal.number 0) (Ok (cond a.told (Some a.results) None)) (Err a.refusal)
 
 -- the results in the answer at an offset
 unfoldable pub results_at : List ℕ → ℕ → Results
@@ -63,11 +64,13 @@ results_at s at = record {
   diagnostics = at + answer_length;
 }
 
--- the answer at an offset: number 0 is no refusal
+-- the answer at an offset
 unfoldable pub answer_at : List ℕ → ℕ → Answer
-answer_at s at =
-    cond (eqb (byte s at) 0) (Ok (cond (eqb (byte s (at + told_at)) 0) None (Some (results_at s at))))
-    (Err (record { number = byte s at; offset = le32 s (at + offset_at) }))
+answer_at s at = record {
+  refusal = record { number = byte s at; offset = le32 s (at + offset_at) };
+  told = not (eqb (byte s (at + told_at)) 0);
+  results = results_at s at;
+}
 
 -- the record at an offset, with rest bytes behind its length, len of them the image
 unfoldable pub placed : List ℕ → ℕ → ℕ → ℕ → Record

@@ -4,9 +4,9 @@
 
 ghost use Rattle.std.specs.Prelude.{◌≡◌, ◌+◌, ◌≤◌, length};
 ghost use Rattle.numbers.specs.Bytes.{le32};
-ghost use Rattle.stored.specs.Files.{is_stored, count_at, answer_length, results_at, answer_at, record_at};
+ghost use Rattle.stored.specs.Files.{is_stored, count_at, answer_length, said, results_at, answer_at, record_at};
 
-use numbers::{LittleEndian, at32, byte_at};
+use numbers::{LittleEndian, at32};
 use oce_diag::Counted;
 use oce_model::Refusal;
 
@@ -50,8 +50,26 @@ pub struct Results {
     pub diagnostics: usize,
 }
 
-// What the oracle says of an image: it is accepted, with the results if they are told; or the refusal.
-pub type Answer = Result<Option<Results>, Refusal>;
+// An answer with all its numbers: a refusal's number and offset, whether results are told, and the results. A
+// file has each of them, whatever the others say.
+#[derive(Clone, Copy)]
+pub struct Answer {
+    pub refusal: Refusal,
+    pub told: bool,
+    pub results: Results,
+}
+
+impl Answer {
+    // What the oracle says of an image: it is accepted, with the results if they are told; or the refusal.
+    pub fn said(&self) -> Result<Option<Results>, Refusal>
+        ensures { result ≡ said self.now }
+    {
+        if self.refusal.number != 0 {
+            return Err(self.refusal);
+        }
+        Ok(self.told.then_some(self.results))
+    }
+}
 
 // An image with what the oracle says of it.
 #[derive(Clone, Copy)]
@@ -101,17 +119,14 @@ fn answer_at(s: &[u8], at: usize) -> Answer
     requires { at + answer_length ≤ length s.now }
     ensures { result ≡ answer_at s.now at }
 {
-    let number = byte_at(s, at);
-    if number != 0 {
-        return Err(Refusal {
-            number: number as u32,
+    Answer {
+        refusal: Refusal {
+            number: u32::from(u8::read_padded(s, at)),
             offset: u32::read_padded(s, at + OFFSET_AT),
-        });
+        },
+        told: u8::read_padded(s, at + TOLD_AT) != 0,
+        results: results_at(s, at),
     }
-    if byte_at(s, at + TOLD_AT) == 0 {
-        return Ok(None);
-    }
-    Ok(Some(results_at(s, at)))
 }
 
 // The record that begins at an offset, if it fits in the file, and image and answer in it.

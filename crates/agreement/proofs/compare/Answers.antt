@@ -1,6 +1,6 @@
 -- `agreement::compare` meets its contract: by what the check answers and leaves.
 use borrow.Author.Rules.{rules}
-use mathlib.Core.Path.{ap, ◌∙◌}
+use mathlib.Core.Path.{sym, ap, ◌∙◌}
 use Rattle.std.specs.Prelude.{Ok}
 use native.Mathlib.Omega.{arith}
 use Rattle.agreement.proofs.Laws.{check-leaves, whole, accepted-refused, accepted-untold, accepted-told}
@@ -12,11 +12,11 @@ compare_results-requires c = let each = c.type_inv.file in check-leaves c.args.f
 pub returns-in-Err : goal.returns-in-Err
 returns-in-Err c = c.compare_refusal.ensures ∙ whole _ _ _ _ c.part_of-image.ensures c.check.ensures.answer (search rules) (search rules) c.in-Err.is
 
-pub returns-in-Err-answer : goal.returns-in-Err-answer
-returns-in-Err-answer c = accepted-refused _ _ _ c.in-Ok.counted (whole _ _ _ _ c.part_of-image.ensures c.check.ensures.answer (search rules) (search rules) c.in-Ok.is) c.in-Err-answer.is
+pub returns-in-Err-said : goal.returns-in-Err-said
+returns-in-Err-said c = accepted-refused _ _ _ c.in-Ok.counted (whole _ _ _ _ c.part_of-image.ensures c.check.ensures.answer (search rules) (search rules) c.in-Ok.is) (sym c.said.ensures ∙ c.in-Err-said.is)
 
 pub returns-in-None : goal.returns-in-None
-returns-in-None c = accepted-untold _ _ _ c.in-Ok.counted (whole _ _ _ _ c.part_of-image.ensures c.check.ensures.answer (search rules) (search rules) c.in-Ok.is) (c.in-Ok-answer.is ∙ ap Ok c.in-None.is)
+returns-in-None c = accepted-untold _ _ _ c.in-Ok.counted (whole _ _ _ _ c.part_of-image.ensures c.check.ensures.answer (search rules) (search rules) c.in-Ok.is) (sym c.said.ensures ∙ c.in-Ok-said.is ∙ ap Ok c.in-None.is)
 
 pub returns-in-Some : goal.returns-in-Some
-returns-in-Some c = accepted-told _ _ _ c.in-Ok.counted (whole _ _ _ _ c.part_of-image.ensures c.check.ensures.answer (search rules) (search rules) c.in-Ok.is) (c.in-Ok-answer.is ∙ ap Ok c.in-Some.is) c.compare_results.ensures
+returns-in-Some c = accepted-told _ _ _ c.in-Ok.counted (whole _ _ _ _ c.part_of-image.ensures c.check.ensures.answer (search rules) (search rules) c.in-Ok.is) (sym c.said.ensures ∙ c.in-Ok-said.is ∙ ap Ok c.in-Some.is) c.compare_results.ensures

@@ -9,7 +9,8 @@ use lib.ListN.{length}
 use borrow.Author.Tests.{le-leb, leb-true}
 use Rattle.std.specs.Prelude.{Some, None}
 use Rattle.numbers.specs.Bytes.{le32}
-use Rattle.stored.specs.Files.{Answer, answer_length, answer_at, placed, fits, record_at}
+use Rattle.stored.specs.declared.Answer.{Answer}
+use Rattle.stored.specs.Files.{answer_length, answer_at, placed, fits, record_at}
 use Rattle.stored.proofs.record_at.Goals as goal
 
 not-both : (a b c d : ℕ) → (a ≤ b → c ≤ d → ⊥) → (leb a b && leb c d) ≡ false
