@@ -57,10 +57,19 @@ pub struct Diagnostic {
 }
 
 // How many errors and how many warnings were counted.
-#[derive(Clone, Copy, PartialEq, Eq, Debug)]
+#[derive(Clone, Copy, PartialEq, Eq, Default, Debug)]
 pub struct Counted {
     pub errors: u32,
     pub warnings: u32,
+}
+
+impl Counted {
+    // How many of both.
+    pub fn total(self) -> usize
+        ensures { (result ≡ total self) × (result < word_range + word_range) }
+    {
+        self.errors as usize + self.warnings as usize
+    }
 }
 
 // The tag of a diagnostic's field, the bytes of its contents, and of all of it.

@@ -17,8 +17,7 @@ impl Report<'_> {
         requires { Room 1 self.old }
         ensures { Puts 1 (d ∷ []) self.old self.new }
     {
-        let n = self.counted.errors + self.counted.warnings;
-        write(self.bytes, n as usize, d);
+        write(self.bytes, self.counted.total(), d);
         self.counted = count(self.counted, d);
     }
 

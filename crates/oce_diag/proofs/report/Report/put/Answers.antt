@@ -3,4 +3,4 @@ use Rattle.oce_diag.proofs.Putting.{put-one}
 use Rattle.oce_diag.proofs.report.Report.put.Goals as goal
 
 pub returns : goal.returns
-returns c = record { put = search (put-one, rules); few = search rules; same = search rules }
+returns c = record { put = put-one (rw (← c.total.ensures.0) c.write.ensures) c.count-self.ensures.0 c.count-self.ensures.1; few = search rules; same = search rules }
