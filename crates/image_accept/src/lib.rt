@@ -1,9 +1,9 @@
 // Every byte string is accepted, with its layout, or refused with the first refusal that applies.
 #![tactic(auto)]
 
-ghost use Rattle.std.specs.Prelude.{◌≡◌, ◌≢◌, ◌&&◌, ◌||◌, eqb, ◌<◌, ◌≤◌, ◌^◌, length, Bool, None, IfSome};
+ghost use Rattle.std.specs.Prelude.{◌≡◌, ◌&&◌, ◌||◌, eqb, ◌+◌, ◌*◌, ◌<◌, ◌≤◌, ◌^◌, length, Bool, None, IfSome};
 ghost use Rattle.std.specs.Result.{result_ok};
-ghost use Rattle.oce_model.specs.Format.{text_tag, block_tag, highest_tag, most, shortest_image, longest_image};
+ghost use Rattle.oce_model.specs.Format.{text_tag, block_tag, highest_tag, shortest_image, longest_image};
 ghost use Rattle.oce_model.specs.Image.{fields, first, of_tag};
 ghost use Rattle.oce_model.specs.declared.Field.{Field};
 ghost use Rattle.image_framing.specs.Walk.{end_of, Tests};
@@ -30,6 +30,16 @@ pub struct Section {
     pub count: usize,
 }
 
+impl Section {
+    // Where record i stands, by the size of the section's records.
+    pub fn record_at(self, size: usize, i: usize) -> usize
+        requires { self.start + size * i ≤ longest_image }
+        ensures { (result ≡ self.start + size * i) × (result ≤ longest_image) }
+    {
+        self.start + size * i
+    }
+}
+
 // The layout of an accepted image: the records of each tag, and the head's Integer defaults. A record of
 // a fixed size stands at its section's start plus its number times the size.
 #[derive(Clone, Copy)]
@@ -43,6 +53,21 @@ pub struct Layout {
     pub outputs: Section,
     pub min: i64,
     pub max: i64,
+}
+
+// Room for the offsets of an image's texts and blocks.
+#[derive(Drop)]
+pub struct Tables {
+    pub texts: [usize; MOST_TEXTS],
+    pub blocks: [usize; MOST_BLOCKS],
+}
+
+impl Tables {
+    // Tables with nothing in them yet.
+    pub const EMPTY: Tables = Tables {
+        texts: [0; MOST_TEXTS],
+        blocks: [0; MOST_BLOCKS],
+    };
 }
 
 // ---- one pass for an image with nothing at fault
@@ -79,15 +104,11 @@ fn is_refused(n: usize, s: &[u8], f: Field) -> bool
 
 // Passes the fields once, up to the first that is at fault under one of refusals 2 to 8: the layout of an image
 // that is accepted, with the offsets of its texts and blocks in the tables.
-fn survey(
-    s: &[u8],
-    texts: &mut [usize; MOST_TEXTS],
-    blocks: &mut [usize; MOST_BLOCKS],
-) -> Option<Layout>
+fn survey(s: &[u8], tables: &mut Tables) -> Option<Layout>
     requires { (shortest_image ≤ length s.now) × (length s.now ≤ longest_image) }
     ensures layout { result ≡ result_ok (acceptance s.now) }
-    ensures texts { TabledIfAccepted text_tag s.now texts.new }
-    ensures blocks { TabledIfAccepted block_tag s.now blocks.new }
+    ensures texts { TabledIfAccepted text_tag s.now tables.new.texts }
+    ensures blocks { TabledIfAccepted block_tag s.now tables.new.blocks }
 {
     let behind_all = Section {
         start: s.len(),
@@ -100,8 +121,8 @@ fn survey(
             return None;
         }
         note(&mut sections, f);
-        list(texts, TEXT_TAG, f);
-        list(blocks, BLOCK_TAG, f);
+        list(&mut tables.texts, TEXT_TAG, f);
+        list(&mut tables.blocks, BLOCK_TAG, f);
         end = end_of(f);
     }
     if end < s.len() {
@@ -209,14 +230,10 @@ fn bad_size(s: &[u8]) -> bool
 // Answers with the layout of an accepted image, and puts the offsets of its texts and blocks into the
 // tables; or with the first refusal that applies, and the tables then hold anything. An image with
 // nothing at fault takes one pass.
-pub fn accept(
-    image: &[u8],
-    texts: &mut [usize; MOST_TEXTS],
-    blocks: &mut [usize; MOST_BLOCKS],
-) -> Result<Layout, Refusal>
+pub fn accept(image: &[u8], tables: &mut Tables) -> Result<Layout, Refusal>
     ensures answer { result ≡ acceptance image.now }
-    ensures texts { TabledIfAccepted text_tag image.now texts.new }
-    ensures blocks { TabledIfAccepted block_tag image.now blocks.new }
+    ensures texts { TabledIfAccepted text_tag image.now tables.new.texts }
+    ensures blocks { TabledIfAccepted block_tag image.now tables.new.blocks }
 {
     if bad_size(image) {
         return Err(Refusal {
@@ -224,7 +241,7 @@ pub fn accept(
             offset: 0,
         });
     }
-    match survey(image, texts, blocks) {
+    match survey(image, tables) {
         Some(layout) => Ok(layout),
         None => Err(refuse_image(image).unwrap_err()),
     }

@@ -3,15 +3,16 @@ use Prim.Native.Nat.{ℕ, ◌+◌, ◌*◌, ◌<◌, ◌≤◌}
 use mathlib.Core.Path.{◌≡◌, refl, sym}
 use mathlib.Core.List.{List}
 use Rattle.std.specs.Prelude.{Option, Some, None, Err}
-use lib.ListN.{length, get_or}
-use Rattle.oce_model.specs.Format.{block_tag, most_blocks, most_connectors, most_connections, most_external_inputs, most_boundary_inputs, most_boundary_outputs}
+use lib.ListN.{length, get_or, take, length-map}
+use Rattle.oce_model.specs.Format.{text_tag, block_tag, most_blocks, most_connectors, most_connections, most_external_inputs, most_boundary_inputs, most_boundary_outputs}
 use Rattle.oce_model.specs.Model.{model_of, block_count, connector_count, connection_count, boundary_input_count, boundary_output_count, ids_at, block, block_at}
 use Rattle.oce_model.specs.Refusals.{refusal}
 use Rattle.oce_model.specs.declared.Refusal.{Refusal}
-use Rattle.image_accept.specs.Layout.{Laid, Tabled, accepts, acceptance}
+use Rattle.image_accept.specs.Layout.{Laid, Tabled, layout_of, section_of, offsets_of, accepts, acceptance}
 use Rattle.image_accept.specs.declared.Layout.{Layout}
 use Rattle.numbers.specs.Bytes.{le16, le32}
 use Rattle.image_records.specs.Images.{block_value, BlockInside}
+use Rattle.image_records.proofs.Tables.{cut, listed}
 use Rattle.image_records.proofs.Laws.{connectors-counted, connections-counted, externals-counted, inputs-counted, outputs-counted, blocks-counted, block-is, block_near, block_inside, input-ports-few, output-ports-few, blocks-few, connectors-few, connections-few, externals-few, boundary-inputs-few, boundary-outputs-few}
 
 module _ {b s : List ℕ} {l : Layout} (e : b ≡ s) (h : Laid b l) where
@@ -54,14 +55,18 @@ module _ {b s : List ℕ} {l : Layout} (e : b ≡ s) (h : Laid b l) where
     an-output k = rw outputs-of.0 k
 
   -- the field of a block
-  module _ {t : List ℕ} {i : ℕ} (g : Tabled block_tag b t) (k : i < block_count (model_of s)) where
+  module _ {t : List ℕ} {i : ℕ} (g : t ≡ offsets_of block_tag b) (k : i < block_count (model_of s)) where
+    pub block-listed : i < length t
+    unfolding model_of
+    block-listed = listed block_tag b g (rw (← e) at (rw length-map at k))
+
     pub block-stands : BlockInside b (get_or t i 0)
     block-stands =
-        let n = a-block k in
+        let n = block-listed in
         record { near = block_near h g n refl; inputs = input-ports-few h g n refl; outputs = output-ports-few h g n refl; ends = block_inside h g n refl }
 
     pub block-there : block_at b (get_or t i 0) ≡ block (model_of s) i
-    block-there = sym (rw (← e) (block-is h g (a-block k) refl))
+    block-there = sym (rw (← e) (block-is h g block-listed refl))
 
 -- a block from its parts
 pub block-whole : (s : List ℕ) (at : ℕ) {i t n o : ℕ} → i ≡ le32 s (at + 3) → t ≡ le16 s (at + 7) → n ≡ le16 s (at + 9) → o ≡ le16 s (at + 11)
@@ -70,6 +75,16 @@ unfolding block_at block_value
 block-whole s at p q r w = rw (p, q, r, w) refl
 
 -- ---- what accepting says
+
+-- the tables are cut to the counts
+module _ {s : List ℕ} {l : Layout} (h : Laid s l) {table : List ℕ} where
+  pub texts-cut : Tabled text_tag s table → take l.texts.count table ≡ offsets_of text_tag s
+  unfolding layout_of section_of
+  texts-cut g = rw h.layout (cut text_tag s g)
+
+  pub blocks-cut : Tabled block_tag s table → take l.blocks.count table ≡ offsets_of block_tag s
+  unfolding layout_of section_of
+  blocks-cut g = rw h.layout (cut block_tag s g)
 
 pub is-refused : (s : List ℕ) {r : Refusal} → Err r ≡ acceptance s → refusal s ≡ Some r
 unfolding acceptance

@@ -6,14 +6,13 @@ use mathlib.Core.Path.{◌≡◌, refl, sym, ap, ◌∙◌}
 use mathlib.Core.Logic.{◌≢◌}
 use mathlib.Core.Bool.{false, cond, not, ◌||◌}
 use mathlib.Core.List.{List}
-use lib.ListN.{length, get_or, drop, length-map, length-append, get_or-append}
+use lib.ListN.{length, get_or, length-map}
 use lib.Dec.{eqb, ltb}
 use borrow.Author.Tests.{eqb-true, ltb-false, not-false}
-use Rattle.base.specs.Buffers.{starts_with}
 use Rattle.base.proofs.Lists.{get_or-tab, or_parts}
 use Rattle.base.proofs.Members.{get_or-map}
 use Rattle.numbers.specs.Bytes.{byte, le16, le32}
-use Rattle.oce_model.specs.Format.{leading_bytes, longest_image, block_ports, port_length, most_ports, block_length, text_tag, block_tag, fixed_length, most, most_blocks, most_connectors, most_connections, most_external_inputs, most_boundary_inputs, most_boundary_outputs, connector_tag, connection_tag, external_input_tag, boundary_input_tag, boundary_output_tag, connector_size, connection_size, external_input_size, boundary_input_size, boundary_output_size, connector_attrs, boundary_input_attrs, boundary_output_attrs, attrs_length, dir_in}
+use Rattle.oce_model.specs.Format.{leading_bytes, longest_image, block_ports, port_length, most_ports, block_length, text_tag, block_tag, fixed_length, most, most_texts, most_blocks, most_connectors, most_connections, most_external_inputs, most_boundary_inputs, most_boundary_outputs, connector_tag, connection_tag, external_input_tag, boundary_input_tag, boundary_output_tag, connector_size, connection_size, external_input_size, boundary_input_size, boundary_output_size, connector_attrs, boundary_input_attrs, boundary_output_attrs, attrs_length, dir_in}
 use Rattle.oce_model.specs.Attributes.{attrs_at}
 use Rattle.oce_model.specs.Image.{field_at, fields, of_tag, start_of}
 use Rattle.oce_model.specs.declared.Field.{Field}
@@ -26,9 +25,10 @@ use Rattle.oce_model.proofs.Accepted.{Accepted, accepted, fixed-length, connecto
 use Rattle.oce_model.proofs.Fields.{none-mem, nth, nth-mem, nth-tag}
 use Rattle.oce_model.proofs.Places.{field-end}
 use Rattle.oce_model.proofs.Records.{nth-at, connector-at, connection-at, external-at, input-at, output-at}
-use Rattle.image_accept.specs.Layout.{Laid, Tabled, section_of, layout_of, offsets_of}
+use Rattle.image_accept.specs.Layout.{Laid, section_of, layout_of, offsets_of}
 use Rattle.image_accept.specs.declared.Layout.{Layout}
 use Rattle.image_accept.proofs.Rooms.{accepted-room}
+use Rattle.image_records.proofs.Tables.{many, stands}
 use Rattle.image_records.specs.Records.{connector_read, connection_read, output_read}
 
 -- a record of a kind of fixed length stands inside the image
@@ -93,6 +93,10 @@ module _ {s : List ℕ} {l : Layout} (h : Laid s l) where
   few : (t : ℕ) → length (of_tag t (fields s)) ≤ most t
   unfolding offsets_of
   few t = let e = accepted-room t s h.accepted (le_refl (most t)) in rw length-map at e
+
+  pub texts-few : l.texts.count ≤ most_texts
+  unfolding layout_of section_of most
+  texts-few = rw h.layout (few text_tag)
 
   pub blocks-few : l.blocks.count ≤ most_blocks
   unfolding layout_of section_of most
@@ -248,46 +252,26 @@ module _ {s : List ℕ} {l : Layout} (h : Laid s l) where
       output-has e = rw e (ap (λ o. o.attrs) output-is)
 
     -- ---- blocks, by the table of their offsets
-    module _ {blocks : List ℕ} (g : Tabled block_tag s blocks) (k : i < l.blocks.count) where
-      many : i < length (of_tag block_tag (fields s))
-      unfolding layout_of section_of
-      many = rw h.layout at k
-
-      listed : i < length (offsets_of block_tag s)
-      unfolding offsets_of
-      listed = rw length-map many
-
-      pub block_listed : i < length blocks
-      unfolding starts_with
-      block_listed =
-          let xs = offsets_of block_tag s in
-          let e : length blocks ≡ length xs + length (drop (length xs) blocks) = ap length g.offsets ∙ length-append xs (drop (length xs) blocks) in
-          let o : i < length xs = listed in
-          omega arith
-
-      stands : get_or blocks i 0 ≡ (nth block_tag s i).at
-      unfolding starts_with offsets_of
-      stands =
-          ap (λ t. get_or t i 0) g.offsets
-          ∙ get_or-append (offsets_of block_tag s) _ 0 i listed
-          ∙ get_or-map (λ (f : Field). f.at) (of_tag block_tag (fields s)) i (field_at s 0 0 0) 0 many
+    module _ {blocks : List ℕ} (g : blocks ≡ offsets_of block_tag s) (k : i < length blocks) where
+      field-many : i < length (of_tag block_tag (fields s))
+      field-many = many block_tag s g k
 
       pub block-is : {at : ℕ} → at ≡ get_or blocks i 0 → block (model_of s) i ≡ block_at s at
       unfolding block model_of
-      block-is e = get_or-map (λ (f : Field). block_at s f.at) (of_tag block_tag (fields s)) i (field_at s 0 0 0) no_block many ∙ ap (block_at s) (sym (e ∙ stands))
+      block-is e = get_or-map (λ (f : Field). block_at s f.at) (of_tag block_tag (fields s)) i (field_at s 0 0 0) no_block field-many ∙ ap (block_at s) (sym (e ∙ stands block_tag s g k))
 
       pub block_near : {at : ℕ} → at ≡ get_or blocks i 0 → at ≤ longest_image
       block_near {at} e =
-          let a : at ≡ (nth block_tag s i).at = e ∙ stands in
-          let f = field-end s (nth block_tag s i) (nth-mem block_tag s i many) in
+          let a : at ≡ (nth block_tag s i).at = e ∙ stands block_tag s g k in
+          let f = field-end s (nth block_tag s i) (nth-mem block_tag s i field-many) in
           let n : length s ≤ longest_image = acc.short in
           omega arith
 
       field-fine : bad_block_length s (nth block_tag s i) ≡ false
       unfolding bad_length
       field-fine =
-          let b : bad_length s (nth block_tag s i) ≡ false = none-mem (bad_length s) (fields s) acc.lengths (nth block_tag s i) (nth-mem block_tag s i many) in
-          rw (nth-tag block_tag s i many) at b
+          let b : bad_length s (nth block_tag s i) ≡ false = none-mem (bad_length s) (fields s) acc.lengths (nth block_tag s i) (nth-mem block_tag s i field-many) in
+          rw (nth-tag block_tag s i field-many) at b
 
       parts : ((not (eqb (nth block_tag s i).len (block_length + port_length * (input_count_at s (nth block_tag s i).at + output_count_at s (nth block_tag s i).at))) || ltb most_ports (input_count_at s (nth block_tag s i).at)) ≡ false) × (ltb most_ports (output_count_at s (nth block_tag s i).at) ≡ false)
       unfolding bad_block_length
@@ -297,14 +281,14 @@ module _ {s : List ℕ} {l : Layout} (h : Laid s l) where
       pub block_inside : {at : ℕ} → at ≡ get_or blocks i 0 → at + block_ports + port_length * (input_count_at s at + output_count_at s at) ≤ length s
       block_inside {at} e =
           let f = nth block_tag s i in
-          let n = field-end s f (nth-mem block_tag s i many) in
+          let n = field-end s f (nth-mem block_tag s i field-many) in
           let w : f.len ≡ block_length + port_length * (input_count_at s f.at + output_count_at s f.at) = eqb-true f.len _ (not-false _ (or_parts _ _ parts.0).0) in
-          rw (e ∙ stands) (omega arith)
+          rw (e ∙ stands block_tag s g k) (omega arith)
 
       pub input-ports-few : {at : ℕ} → at ≡ get_or blocks i 0 → input_count_at s at ≤ most_ports
       input-ports-few {at} e =
           let f = nth block_tag s i in
-          rw (e ∙ stands) (ltb-false most_ports (input_count_at s f.at) (or_parts (not (eqb f.len (block_length + port_length * (input_count_at s f.at + output_count_at s f.at)))) (ltb most_ports (input_count_at s f.at)) parts.0).1)
+          rw (e ∙ stands block_tag s g k) (ltb-false most_ports (input_count_at s f.at) (or_parts (not (eqb f.len (block_length + port_length * (input_count_at s f.at + output_count_at s f.at)))) (ltb most_ports (input_count_at s f.at)) parts.0).1)
 
       pub output-ports-few : {at : ℕ} → at ≡ get_or blocks i 0 → output_count_at s at ≤ most_ports
-      output-ports-few {at} e = rw (e ∙ stands) (ltb-false most_ports (output_count_at s (nth block_tag s i).at) parts.1)
+      output-ports-few {at} e = rw (e ∙ stands block_tag s g k) (ltb-false most_ports (output_count_at s (nth block_tag s i).at) parts.1)

@@ -1,28 +1,29 @@
 // An accepted image, with its records by their numbers. Clauses see it as its bytes.
 
-ghost use Rattle.std.specs.Prelude.{◌≡◌, ◌+◌, ◌*◌, ◌<◌, ◌≤◌, ℕ, List, length, get_or};
+ghost use Rattle.std.specs.Prelude.{◌≡◌, ◌<◌, ◌≤◌, ℕ, List, length, get_or};
 ghost use Rattle.std.specs.Prelude.{None};
 ghost use Rattle.oce_model.specs.Format.{text_tag, block_tag, most_blocks, most_connectors, most_connections, most_external_inputs, most_boundary_inputs, most_boundary_outputs};
 ghost use Rattle.oce_model.specs.Model.{model_of, block_count, connector_count, connection_count, boundary_input_count, boundary_output_count, block, connector, connection, boundary_input, boundary_output, text};
 ghost use Rattle.base.specs.Lists.{same};
 ghost use Rattle.oce_model.specs.Texts.{order};
 ghost use Rattle.oce_model.specs.Refusals.{refusal};
-ghost use Rattle.image_accept.specs.Layout.{Laid, Tabled};
+ghost use Rattle.image_accept.specs.Layout.{Laid, offsets_of};
 ghost use Rattle.image_records.specs.Records.{connector_read, connection_read, output_read};
 ghost use Rattle.image_records.specs.Images.{block_value, Accepts};
 
 use super::blocks::{Block, block_at};
-use super::{connector_at, record_at};
-use image_accept::{Layout, accept};
+use super::connector_at;
+use base::part_of;
+use image_accept::{Layout, Tables, accept};
 use image_contents::attrs_inside;
-use image_texts::{order_of, same_bytes, text_of};
-use numbers::LittleEndian;
+use image_texts::{order_of, same_bytes};
+use numbers::{LittleEndian, at16};
 use oce_model::{
     Attrs, BOUNDARY_INPUT_ATTRS, BOUNDARY_INPUT_IRI_AT, BOUNDARY_INPUT_SIZE, BOUNDARY_OUTPUT_ATTRS,
     BOUNDARY_OUTPUT_IRI_AT, BOUNDARY_OUTPUT_SIZE, BOUNDARY_OUTPUT_SOURCE_AT, BlockId,
     BoundaryOutputFront, CONNECTION_FROM_AT, CONNECTION_SIZE, CONNECTION_TO_AT, CONNECTOR_ATTRS,
     CONNECTOR_SIZE, Connection, ConnectorFront, ConnectorId, EXTERNAL_INPUT_ID_AT,
-    EXTERNAL_INPUT_SIZE, MOST_BLOCKS, MOST_TEXTS, Refusal,
+    EXTERNAL_INPUT_SIZE, FIELD_LENGTH_AT, LEADING_BYTES, Refusal,
 };
 use std::cmp::Ordering;
 use std::marker::Model;
@@ -41,27 +42,21 @@ impl<'a, 't> Model for Image<'a, 't> {
 
     ghost view = { λ a. a.bytes.now };
 
-    ghost invariant = { λ a. Laid a.bytes.now a.layout × Tabled text_tag a.bytes.now a.texts.now × Tabled block_tag a.bytes.now a.blocks.now };
+    ghost invariant = { λ a. Laid a.bytes.now a.layout × (a.texts.now ≡ offsets_of text_tag a.bytes.now) × (a.blocks.now ≡ offsets_of block_tag a.bytes.now) };
 }
 
 impl<'a, 't> Image<'a, 't> {
     // Accepts an image, or says why not. The tables are room for the offsets.
-    pub fn accept(
-        bytes: &'a [u8],
-        texts: &'t mut [usize; MOST_TEXTS],
-        blocks: &'t mut [usize; MOST_BLOCKS],
-    ) -> Result<Image<'a, 't>, Refusal>
+    pub fn accept(bytes: &'a [u8], tables: &'t mut Tables) -> Result<Image<'a, 't>, Refusal>
         ensures { Accepts bytes.now result }
     {
-        match accept(bytes, texts, blocks) {
-            Ok(layout) => Ok(Image {
-                bytes,
-                layout,
-                texts,
-                blocks,
-            }),
-            Err(refusal) => Err(refusal),
-        }
+        let layout = accept(bytes, tables)?;
+        Ok(Image {
+            bytes,
+            layout,
+            texts: &tables.texts[..layout.texts.count],
+            blocks: &tables.blocks[..layout.blocks.count],
+        })
     }
 
     // All of its bytes.
@@ -123,7 +118,13 @@ impl<'a, 't> Image<'a, 't> {
     pub fn text(&self, i: usize) -> &'a [u8]
         ensures { result.now ≡ text (model_of self.now) i }
     {
-        text_of(self.bytes, self.layout, self.texts, i)
+        match self.texts.get(i) {
+            Some(&at) => {
+                let length = at16(self.bytes, at + FIELD_LENGTH_AT);
+                part_of(self.bytes, at + LEADING_BYTES, length)
+            }
+            None => &[],
+        }
     }
 
     // Two texts, by their numbers, have the same bytes.
@@ -163,7 +164,9 @@ impl<'a, 't> Image<'a, 't> {
     {
         connector_at(
             self.bytes,
-            record_at(self.layout.connectors, CONNECTOR_SIZE, i.0 as usize),
+            self.layout
+                .connectors
+                .record_at(CONNECTOR_SIZE, i.0 as usize),
         )
     }
 
@@ -172,7 +175,10 @@ impl<'a, 't> Image<'a, 't> {
         requires { i.0 < connector_count (model_of self.now) }
         ensures { result ≡ (connector (model_of self.now) i.0).attrs }
     {
-        let at = record_at(self.layout.connectors, CONNECTOR_SIZE, i.0 as usize);
+        let at = self
+            .layout
+            .connectors
+            .record_at(CONNECTOR_SIZE, i.0 as usize);
         attrs_inside(self.bytes, at + CONNECTOR_ATTRS)
     }
 
@@ -181,7 +187,7 @@ impl<'a, 't> Image<'a, 't> {
         requires { k < connection_count (model_of self.now) }
         ensures { result ≡ connection_read (connection (model_of self.now) k) }
     {
-        let at = record_at(self.layout.connections, CONNECTION_SIZE, k);
+        let at = self.layout.connections.record_at(CONNECTION_SIZE, k);
         Connection {
             from: ConnectorId(u32::read(self.bytes, at + CONNECTION_FROM_AT)),
             to: ConnectorId(u32::read(self.bytes, at + CONNECTION_TO_AT)),
@@ -193,7 +199,7 @@ impl<'a, 't> Image<'a, 't> {
         requires { i < length (model_of self.now).external_inputs }
         ensures { result.0 ≡ get_or (model_of self.now).external_inputs i 0 }
     {
-        let at = record_at(self.layout.externals, EXTERNAL_INPUT_SIZE, i);
+        let at = self.layout.externals.record_at(EXTERNAL_INPUT_SIZE, i);
         ConnectorId(u32::read(self.bytes, at + EXTERNAL_INPUT_ID_AT))
     }
 
@@ -204,7 +210,7 @@ impl<'a, 't> Image<'a, 't> {
         requires { i < boundary_input_count (model_of self.now) }
         ensures { result ≡ (boundary_input (model_of self.now) i).iri }
     {
-        let at = record_at(self.layout.inputs, BOUNDARY_INPUT_SIZE, i);
+        let at = self.layout.inputs.record_at(BOUNDARY_INPUT_SIZE, i);
         u16::read(self.bytes, at + BOUNDARY_INPUT_IRI_AT)
     }
 
@@ -213,7 +219,7 @@ impl<'a, 't> Image<'a, 't> {
         requires { i < boundary_input_count (model_of self.now) }
         ensures { result ≡ (boundary_input (model_of self.now) i).attrs }
     {
-        let at = record_at(self.layout.inputs, BOUNDARY_INPUT_SIZE, i);
+        let at = self.layout.inputs.record_at(BOUNDARY_INPUT_SIZE, i);
         attrs_inside(self.bytes, at + BOUNDARY_INPUT_ATTRS)
     }
 
@@ -222,7 +228,7 @@ impl<'a, 't> Image<'a, 't> {
         requires { i < boundary_output_count (model_of self.now) }
         ensures { result ≡ output_read (boundary_output (model_of self.now) i) }
     {
-        let at = record_at(self.layout.outputs, BOUNDARY_OUTPUT_SIZE, i);
+        let at = self.layout.outputs.record_at(BOUNDARY_OUTPUT_SIZE, i);
         BoundaryOutputFront {
             iri: u16::read(self.bytes, at + BOUNDARY_OUTPUT_IRI_AT),
             source: ConnectorId(u32::read(self.bytes, at + BOUNDARY_OUTPUT_SOURCE_AT)),
@@ -234,7 +240,7 @@ impl<'a, 't> Image<'a, 't> {
         requires { i < boundary_output_count (model_of self.now) }
         ensures { result ≡ (boundary_output (model_of self.now) i).attrs }
     {
-        let at = record_at(self.layout.outputs, BOUNDARY_OUTPUT_SIZE, i);
+        let at = self.layout.outputs.record_at(BOUNDARY_OUTPUT_SIZE, i);
         attrs_inside(self.bytes, at + BOUNDARY_OUTPUT_ATTRS)
     }
 }

@@ -2,7 +2,7 @@
 // each record stands.
 #![tactic(auto)]
 
-ghost use Rattle.std.specs.Prelude.{cond, eqb, ◌≡◌, ◌+◌, ◌*◌, ◌≤◌, length};
+ghost use Rattle.std.specs.Prelude.{cond, eqb, ◌≡◌, ◌+◌, ◌≤◌, length};
 ghost use Rattle.oce_model.specs.Format.{longest_image, connector_size, dir_in};
 ghost use Rattle.oce_model.specs.declared.Dir.TheVariants.{In, Out};
 ghost use Rattle.oce_model.specs.Model.{connector_at};
@@ -13,20 +13,11 @@ mod image;
 
 pub use blocks::{Block, Ids};
 pub use image::Image;
-use image_accept::Section;
 use numbers::LittleEndian;
 use oce_model::{
     BlockId, CONNECTOR_BLOCK_AT, CONNECTOR_CLASS_AT, CONNECTOR_DIR_AT, CONNECTOR_ID_AT,
     CONNECTOR_IRI_AT, CONNECTOR_TYPE_AT, ConnectorFront, ConnectorId, Dir,
 };
-
-// Where record i of a section stands, by the size of its records.
-fn record_at(section: Section, size: usize, i: usize) -> usize
-    requires { section.start + size * i ≤ longest_image }
-    ensures { (result ≡ section.start + size * i) × (result ≤ longest_image) }
-{
-    section.start + size * i
-}
 
 // The direction of a number: an accepted image has none but these two.
 fn dir_of(number: u8) -> Dir

@@ -1,4 +1,3 @@
--- Comparing byte strings, byte by byte and eight bytes at a time, and where texts stand.
+-- Comparing byte strings, byte by byte and eight bytes at a time.
 pub mod Bytewise
 pub mod Eight
-pub mod Places

@@ -1,21 +1,13 @@
-// Texts of an accepted image: their bytes, which of them are equal, and their order by bytes.
+// Byte strings: which are equal, and their order by bytes.
 #![tactic(auto)]
 
-ghost use Rattle.std.specs.Prelude.{◌≡◌, true, ◌+◌, ◌≤◌, ◌<◌, length, get_or, drop};
+ghost use Rattle.std.specs.Prelude.{◌≡◌, true, ◌+◌, ◌≤◌, ◌<◌, length, drop};
 ghost use Rattle.base.specs.Lists.{same};
-ghost use Rattle.oce_model.specs.Format.{longest_image, text_tag};
 ghost use Rattle.oce_model.specs.Texts.{order};
-ghost use Rattle.oce_model.specs.Model.{model_of, text};
-ghost use Rattle.image_accept.specs.Layout.{Laid, Tabled};
 ghost use Rattle.image_texts.specs.Passed.{Passed};
 
-use base::part_of;
-use image_accept::Layout;
-use numbers::{LittleEndian, at16};
-use oce_model::{FIELD_LENGTH_AT, LEADING_BYTES};
+use numbers::LittleEndian;
 use std::cmp::Ordering;
-
-// ---- byte strings
 
 // Whether the eight bytes of a and of b from i on are the same.
 fn eight_same(a: &[u8], b: &[u8], i: usize) -> bool
@@ -51,28 +43,4 @@ pub fn same_bytes(a: &[u8], b: &[u8]) -> bool
     ensures { result ≡ same a.now b.now }
 {
     a.len() == b.len() && order_of(a, b).is_eq()
-}
-
-// ---- texts by number; texts is the table that `accept` filled
-
-// Where text i stands.
-fn text_offset(image: &[u8], layout: Layout, texts: &[usize], i: usize) -> usize
-    requires { Laid image.now layout × Tabled text_tag image.now texts.now × (i < layout.texts.count) }
-    ensures { (result ≡ get_or texts.now i 0) × (result ≤ longest_image) }
-{
-    texts[i]
-}
-
-// The bytes of text i, none where there is no such text.
-pub fn text_of<'a>(image: &'a [u8], layout: Layout, texts: &[usize], i: usize) -> &'a [u8]
-    requires { Laid image.now layout × Tabled text_tag image.now texts.now }
-    ensures { result.now ≡ text (model_of image.now) i }
-{
-    let section = layout.texts;
-    let n = section.count;
-    if n <= i {
-        return part_of(image, 0, 0);
-    }
-    let at = text_offset(image, layout, texts, i);
-    part_of(image, at + LEADING_BYTES, at16(image, at + FIELD_LENGTH_AT))
 }

@@ -15,7 +15,7 @@ use Rattle.image_accept.specs.Layout.{Laid}
 use Rattle.image_accept.specs.declared.Layout.{Layout}
 use Rattle.oce_diag.specs.Encoding.{text_subject_kind}
 use Rattle.subject.specs.Subject.{labelled, subject_text}
-use Rattle.image_texts.proofs.Places.{text-short}
+use Rattle.image_records.proofs.Texts.{text-short}
 use Rattle.oce_diag.specs.Decoded.{diagnostic_at}
 use Rattle.printed.specs.Printed.{line, lines_from, longest_line}
 use Rattle.printed.specs.Pieces.{Pieced}

@@ -7,7 +7,7 @@ use Rattle.image_accept.proofs.Surveying.{laid, survey-accepted, not-accepted, n
 use Rattle.image_accept.proofs.survey.Goals as goal
 
 pub loop-f-init : goal.loop-f-init
-loop-f-init c = survey-start c.args.texts.now c.args.blocks.now (c.into_iter-f-iterator.ensures.into_iter_gives ∙ c.of-f-items.ensures)
+loop-f-init c = survey-start _ _ (c.into_iter-f-iterator.ensures.into_iter_gives ∙ c.of-f-items.ensures)
 
 pub is_refused-requires : goal.is_refused-requires
 is_refused-requires c = (survey-fits c.loop-f.invariant c.in-Some.ensures.steps, c.requires.1)
@@ -26,18 +26,18 @@ note-requires c = survey-notes c.loop-f.invariant c.in-Some.ensures.steps c.is_r
 
 pub list-requires : goal.list-requires
 unfolding most
-list-requires c = survey-lists c.loop-f.invariant c.in-Some.ensures.steps c.is_refused.ensures c.if-is_refused.false text_tag _ (omega (arith, c.loop-f.invariant.texts-listed.long, c.told-texts))
+list-requires c = survey-lists c.loop-f.invariant c.in-Some.ensures.steps c.is_refused.ensures c.if-is_refused.false text_tag _ (omega (arith, c.loop-f.invariant.texts-listed.long, c.told-tables))
 
 pub list-requires-in-loop-f : goal.list-requires-in-loop-f
 unfolding most
-list-requires-in-loop-f c = survey-lists c.loop-f.invariant c.in-Some.ensures.steps c.is_refused.ensures c.if-is_refused.false block_tag _ (omega (arith, c.loop-f.invariant.blocks-listed.long, c.told-blocks))
+list-requires-in-loop-f c = survey-lists c.loop-f.invariant c.in-Some.ensures.steps c.is_refused.ensures c.if-is_refused.false block_tag _ (omega (arith, c.loop-f.invariant.blocks-listed.long, c.told-tables))
 
 pub end_of-end-requires : goal.end_of-end-requires
 end_of-end-requires c = omega (arith, c.requires, survey-fits c.loop-f.invariant c.in-Some.ensures.steps)
 
 pub loop-f-preserved : goal.loop-f-preserved
 unfolding most
-loop-f-preserved c = survey-next c.loop-f.invariant c.in-Some.ensures.steps c.is_refused.ensures c.if-is_refused.false (omega (arith, c.loop-f.invariant.texts-listed.long, c.told-texts)) (omega (arith, c.loop-f.invariant.blocks-listed.long, c.told-blocks)) c.note.ensures c.list.ensures c.list-in-loop-f.ensures c.end_of-end.ensures
+loop-f-preserved c = survey-next c.loop-f.invariant c.in-Some.ensures.steps c.is_refused.ensures c.if-is_refused.false (omega (arith, c.loop-f.invariant.texts-listed.long, c.told-tables)) (omega (arith, c.loop-f.invariant.blocks-listed.long, c.told-tables)) c.note.ensures c.list.ensures c.list-in-loop-f.ensures c.end_of-end.ensures
 
 pub returns-then-end-s-clause-layout : goal.returns-then-end-s-clause-layout
 returns-then-end-s-clause-layout c = not-accepted c.args.s.now (survey-cut c.loop-f.invariant c.in-None.ensures.steps.0 c.if-end-s.true)

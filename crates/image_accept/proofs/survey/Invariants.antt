@@ -3,4 +3,4 @@ use Rattle.image_accept.proofs.Surveying.{Surveying}
 use Rattle.image_accept.proofs.survey.Given as goal
 
 abbrev pub invariant-loop-f : goal.invariant-loop-f
-invariant-loop-f l = Surveying l.s l.f-iterator l.end l.sections l.fn.texts l.texts l.fn.blocks l.blocks
+invariant-loop-f l = Surveying l.s l.f-iterator l.end l.sections l.fn.tables.texts l.tables.texts l.fn.tables.blocks l.tables.blocks

@@ -1,16 +1,15 @@
--- Where the texts of an accepted image stand, by the table of their offsets.
+-- The texts of an accepted image, by the table of their offsets.
 use Prim.Native.Nat.{ℕ, zero, suc, ◌+◌, ◌<◌, ◌≤◌}
 use native.Mathlib.Decide.{dec_lt}
 use native.Mathlib.Omega.{arith}
-use mathlib.Core.Path.{◌≡◌, sym, ap, ◌∙◌}
+use mathlib.Core.Path.{◌≡◌, sym, ◌∙◌}
 use mathlib.Core.Logic.{◌⊎◌, inl, inr}
 use mathlib.Core.Bool.{Bool, true, false, cond}
 use mathlib.Core.List.Memᴰ
 use mathlib.Core.List.{List, [], ◌∷◌, map, Memᴰ}
 use lib.Dec.{leb}
 use borrow.Author.Tests.{ltb-false}
-use lib.ListN.{length, get_or, take, drop, length-map, length-take, length-append, get_or-append, get_or-eq_default}
-use Rattle.base.specs.Buffers.{starts_with}
+use lib.ListN.{length, get_or, take, drop, length-map, length-take, get_or-eq_default}
 use Rattle.base.proofs.Members.{get_or-map}
 use Rattle.numbers.specs.Bytes.{byte, le16}
 use Rattle.oce_model.specs.Format.{leading_bytes, longest_image, longest_text, text_tag}
@@ -22,8 +21,9 @@ use Rattle.oce_model.specs.Refusals.{bad_length}
 use Rattle.oce_model.proofs.Accepted.{accepted}
 use Rattle.oce_model.proofs.Fields.{nth, nth-mem, nth-tag, none-mem}
 use Rattle.oce_model.proofs.Places.{field-end}
-use Rattle.image_accept.specs.Layout.{Laid, Tabled, section_of, layout_of, offsets_of}
+use Rattle.image_accept.specs.Layout.{Laid, offsets_of}
 use Rattle.image_accept.specs.declared.Layout.{Layout}
+use Rattle.image_records.proofs.Tables.{many, stands}
 
 -- a field has the length that stands behind its tag
 len-from : (k : ℕ) (s : List ℕ) (at prev n : ℕ) (f : Field) → Memᴰ f (fields_from k s at prev n) → f.len ≡ le16 s (f.at + 1)
@@ -49,51 +49,28 @@ field-len : (s : List ℕ) (f : Field) → Memᴰ f (fields s) → f.len ≡ le1
 unfolding fields
 field-len s f m = len-from (length s) s 0 0 0 f m
 
-module _ {s : List ℕ} {l : Layout} (h : Laid s l) {texts : List ℕ} (g : Tabled text_tag s texts) {i : ℕ} where
+module _ {s : List ℕ} {l : Layout} (h : Laid s l) {texts : List ℕ} (g : texts ≡ offsets_of text_tag s) {i : ℕ} where
   -- no text has the number i
-  pub text-none : {r : List ℕ} → l.texts.count ≤ i → r ≡ take 0 (drop 0 s) → r ≡ text (model_of s) i
-  unfolding text model_of layout_of section_of
-  text-none k e =
-      let n : length (of_tag text_tag (fields s)) ≤ i = rw h.layout at k in
-      e ∙ sym (get_or-eq_default (model_of s).texts [] (rw length-map n))
+  pub text-none : length texts ≤ i → [] ≡ text (model_of s) i
+  unfolding text model_of offsets_of
+  text-none k =
+      let n : length (of_tag text_tag (fields s)) ≤ i = rw (g, length-map) at k in
+      sym (get_or-eq_default (model_of s).texts [] (rw length-map n))
 
-  module _ (k : i < l.texts.count) where
-    many : i < length (of_tag text_tag (fields s))
-    unfolding layout_of section_of
-    many = rw h.layout at k
-
-    listed : i < length (offsets_of text_tag s)
-    unfolding offsets_of
-    listed = rw length-map many
-
-    pub text-listed : i < length texts
-    unfolding starts_with
-    text-listed =
-        let xs = offsets_of text_tag s in
-        let e : length texts ≡ length xs + length (drop (length xs) texts) = ap length g.offsets ∙ length-append xs (drop (length xs) texts) in
-        let o : i < length xs = listed in
-        omega arith
-
-    stands : get_or texts i 0 ≡ (nth text_tag s i).at
-    unfolding starts_with offsets_of
-    stands =
-        ap (λ t. get_or t i 0) g.offsets
-        ∙ get_or-append (offsets_of text_tag s) _ 0 i listed
-        ∙ get_or-map (λ (f : Field). f.at) (of_tag text_tag (fields s)) i (field_at s 0 0 0) 0 many
-
+  module _ (k : i < length texts) where
     pub text-near : get_or texts i 0 ≤ longest_image
     text-near =
-        let a : get_or texts i 0 ≡ (nth text_tag s i).at = stands in
-        let f = field-end s (nth text_tag s i) (nth-mem text_tag s i many) in
+        let a : get_or texts i 0 ≡ (nth text_tag s i).at = stands text_tag s g k in
+        let f = field-end s (nth text_tag s i) (nth-mem text_tag s i (many text_tag s g k)) in
         let n : length s ≤ longest_image = (accepted s h.accepted).short in
         omega arith
 
     pub text-is : {at n : ℕ} {r : List ℕ} → at ≡ get_or texts i 0 → n ≡ le16 s (at + 1) → r ≡ take n (drop (at + leading_bytes) s) → r ≡ text (model_of s) i
     unfolding text model_of text_of
     text-is {at} {n} e p q =
-        let a : at ≡ (nth text_tag s i).at = e ∙ stands in
-        let z : n ≡ (nth text_tag s i).len = p ∙ rw a (sym (field-len s (nth text_tag s i) (nth-mem text_tag s i many))) in
-        q ∙ rw (z, a) (sym (get_or-map (text_of s) (of_tag text_tag (fields s)) i (field_at s 0 0 0) [] many))
+        let a : at ≡ (nth text_tag s i).at = e ∙ stands text_tag s g k in
+        let z : n ≡ (nth text_tag s i).len = p ∙ rw a (sym (field-len s (nth text_tag s i) (nth-mem text_tag s i (many text_tag s g k)))) in
+        q ∙ rw (z, a) (sym (get_or-map (text_of s) (of_tag text_tag (fields s)) i (field_at s 0 0 0) [] (many text_tag s g k)))
 
 -- no text has more than 255 bytes
 pub text-short : {s : List ℕ} {l : Layout} → Laid s l → (i : ℕ) → length (text (model_of s) i) ≤ longest_text
