@@ -12,7 +12,7 @@ use Rattle.image_accept.specs.Layout.{Laid, Tabled, layout_of, section_of, offse
 use Rattle.image_accept.specs.declared.Layout.{Layout}
 use Rattle.numbers.specs.Bytes.{le16, le32}
 use Rattle.image_records.specs.Images.{block_value, BlockInside}
-use Rattle.image_records.proofs.Tables.{cut, listed}
+use Rattle.image_records.proofs.Offsets.{cut, listed}
 use Rattle.image_records.proofs.Laws.{connectors-counted, connections-counted, externals-counted, inputs-counted, outputs-counted, blocks-counted, block-is, block_near, block_inside, input-ports-few, output-ports-few, blocks-few, connectors-few, connections-few, externals-few, boundary-inputs-few, boundary-outputs-few}
 
 module _ {b s : List ℕ} {l : Layout} (e : b ≡ s) (h : Laid b l) where

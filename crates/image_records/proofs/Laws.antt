@@ -28,7 +28,7 @@ use Rattle.oce_model.proofs.Records.{nth-at, connector-at, connection-at, extern
 use Rattle.image_accept.specs.Layout.{Laid, section_of, layout_of, offsets_of}
 use Rattle.image_accept.specs.declared.Layout.{Layout}
 use Rattle.image_accept.proofs.Rooms.{accepted-room}
-use Rattle.image_records.proofs.Tables.{many, stands}
+use Rattle.image_records.proofs.Offsets.{many, stands}
 use Rattle.image_records.specs.Records.{connector_read, connection_read, output_read}
 
 -- a record of a kind of fixed length stands inside the image

@@ -23,7 +23,7 @@ use Rattle.oce_model.proofs.Fields.{nth, nth-mem, nth-tag, none-mem}
 use Rattle.oce_model.proofs.Places.{field-end}
 use Rattle.image_accept.specs.Layout.{Laid, offsets_of}
 use Rattle.image_accept.specs.declared.Layout.{Layout}
-use Rattle.image_records.proofs.Tables.{many, stands}
+use Rattle.image_records.proofs.Offsets.{many, stands}
 
 -- a field has the length that stands behind its tag
 len-from : (k : ℕ) (s : List ℕ) (at prev n : ℕ) (f : Field) → Memᴰ f (fields_from k s at prev n) → f.len ≡ le16 s (f.at + 1)

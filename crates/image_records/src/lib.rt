@@ -13,6 +13,7 @@ mod image;
 
 pub use blocks::{Block, Ids};
 pub use image::Image;
+pub use image_accept::Tables;
 use numbers::LittleEndian;
 use oce_model::{
     BlockId, CONNECTOR_BLOCK_AT, CONNECTOR_CLASS_AT, CONNECTOR_DIR_AT, CONNECTOR_ID_AT,
