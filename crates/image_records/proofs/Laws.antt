@@ -16,15 +16,16 @@ use Rattle.oce_model.specs.Format.{leading_bytes, longest_image, block_ports, po
 use Rattle.oce_model.specs.Attributes.{attrs_at}
 use Rattle.oce_model.specs.Image.{field_at, fields, of_tag, start_of}
 use Rattle.oce_model.specs.declared.Field.{Field}
-use Rattle.oce_model.specs.Model.{dir_of, model_of, ids_at, input_count_at, output_count_at, no_block, block, block_at, connector, connector_at, connection, connection_at, external_input_at, boundary_input, boundary_input_at, boundary_output, boundary_output_at, block_count, connector_count, connection_count, boundary_input_count, boundary_output_count}
+use Rattle.oce_model.specs.Model.{dir_of, kind_of, kind_number, model_of, ids_at, input_count_at, output_count_at, no_block, block, block_at, connector, connector_at, connection, connection_at, external_input_at, boundary_input, boundary_input_at, boundary_output, boundary_output_at, block_count, connector_count, connection_count, boundary_input_count, boundary_output_count}
 use Rattle.oce_model.specs.Refusals.{bad_length, bad_block_length}
 use Rattle.oce_model.specs.declared.ConnectorFront.{ConnectorFront}
 use Rattle.oce_model.specs.declared.Dir.{Dir}
+use Rattle.oce_model.specs.declared.Kind.{Kind}
 use Rattle.oce_model.specs.declared.Dir.TheVariants.{In, Out}
 use Rattle.oce_model.proofs.Accepted.{Accepted, accepted, fixed-length, connectors-length, connections-length, inputs-length, outputs-length}
 use Rattle.oce_model.proofs.Fields.{none-mem, nth, nth-mem, nth-tag}
 use Rattle.oce_model.proofs.Places.{field-end}
-use Rattle.oce_model.proofs.Records.{nth-at, connector-at, connection-at, external-at, input-at, output-at}
+use Rattle.oce_model.proofs.Records.{connector-type, kind-number, nth-at, connector-at, connection-at, external-at, input-at, output-at}
 use Rattle.image_accept.specs.Layout.{Laid, section_of, layout_of, offsets_of}
 use Rattle.image_accept.specs.declared.Layout.{Layout}
 use Rattle.image_accept.proofs.Rooms.{accepted-room}
@@ -50,7 +51,7 @@ inside s acc t z i n o e k =
     omega arith
 
 -- a connector from its parts
-pub connector-parts : (s : List ℕ) (at : ℕ) {i b n k c t : ℕ} {d : Dir} → i ≡ le32 s (at + 3) → b ≡ le32 s (at + 7) → n ≡ byte s (at + 11) → d ≡ cond (eqb n dir_in) In Out → k ≡ byte s (at + 12) → c ≡ le32 s (at + 13) → t ≡ le16 s (at + 17)
+pub connector-parts : (s : List ℕ) (at : ℕ) {i b n c t : ℕ} {d : Dir} {k : Kind} → i ≡ le32 s (at + 3) → b ≡ le32 s (at + 7) → n ≡ byte s (at + 11) → d ≡ cond (eqb n dir_in) In Out → k ≡ kind_of (byte s (at + 12)) → c ≡ le32 s (at + 13) → t ≡ le16 s (at + 17)
     → record { id = record { 0 = i }; block = record { 0 = b }; dir = d; value_type = k; class = c; iri = t } ≡ connector_read (connector_at s at)
 unfolding connector_at connector_read dir_of
 connector-parts s at e₁ e₂ e₃ e₄ e₅ e₆ e₇ = rw (e₁, e₂, e₄, e₃, e₅, e₆, e₇) refl
@@ -144,6 +145,10 @@ module _ {s : List ℕ} {l : Layout} (h : Laid s l) where
 
       pub connector-read : {at : ℕ} {c : ConnectorFront} → at ≡ l.connectors.start + connector_size * i → c ≡ connector_read (connector_at s at) → c ≡ connector_read (connector (model_of s) i)
       connector-read e q = q ∙ ap connector_read (ap (connector_at s) e ∙ connector-is)
+
+      pub connector-typed : {c : ConnectorFront} → c ≡ connector_read (connector (model_of s) i) → kind_number c.value_type ≡ (connector (model_of s) i).value_type
+      unfolding connector_read
+      connector-typed e = rw e (kind-number _ (connector-type s acc i (rw (sym connectors-counted) k)))
 
       pub connector-has : {at : ℕ} → at ≡ l.connectors.start + connector_size * i → attrs_at s (at + connector_attrs) ≡ (connector (model_of s) i).attrs
       unfolding connector_at

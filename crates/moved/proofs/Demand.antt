@@ -1,21 +1,17 @@
 -- Parts 3 to 7 of demand 3 over the definitions: of an accepted image without errors, and the model read again from the filled image. FORMAT 18.
-use Prim.Native.Nat.{ℕ, ◌+◌, ◌^◌, ◌≤◌, ◌<◌}
+use Prim.Native.Nat.{ℕ, ◌+◌, ◌^◌, ◌<◌}
 use mathlib.Core.Path.{◌≡◌, refl, ap, ◌∙◌}
-use mathlib.Core.Bool.{true, false, not, ◌&&◌, ◌||◌}
+use mathlib.Core.Bool.{true, false}
 use mathlib.Core.List.{List, []}
 use Rattle.std.specs.Prelude.{Option, Some, None}
 use mathlib.Core.Logic.{◌≢◌}
 use lib.ListN.{length, get_or}
-use lib.Dec.{eqb, ltb}
 use lib.Signed.{mag}
-use borrow.Author.Tests.{ltb-false}
-use Rattle.oce_model.specs.Format.{connector_tag, enum_kind, head_tag, quantity_bit, real_kind, unit_bit}
+use Rattle.oce_model.specs.Format.{quantity_bit, real_kind, unit_bit}
 use Rattle.oce_model.specs.Attributes.{declared_at}
 use Rattle.oce_model.specs.declared.Attrs.{Attrs}
-use Rattle.oce_model.specs.Image.{fields}
-use Rattle.oce_model.specs.Model.{Model, boundary_input, boundary_output, boundary_output_count, connection, connector, connector_at, connector_count, model_of, text}
-use Rattle.oce_model.specs.Refusals.{attrs_offset, bad_attrs, bad_connector, bad_contents, bad_head, on_attrs, refusal}
-use Rattle.oce_model.specs.declared.Field.{Field}
+use Rattle.oce_model.specs.Model.{Model, boundary_input, boundary_output, boundary_output_count, connection, connector, connector_count, model_of, text}
+use Rattle.oce_model.specs.Refusals.{refusal}
 use Rattle.oce_diag.specs.Diagnostics.{has_error}
 use Rattle.crossed_bounds.specs.Ranges.{range_of}
 use Rattle.crossed_bounds.specs.Values.{Datum, inside, of_type}
@@ -27,9 +23,8 @@ use Rattle.outcome.specs.Filled.{filled_of, with_slots}
 use Rattle.outcome.specs.Report.{final_slots}
 use Rattle.moved.specs.Moved.{Choice, Kept, OfTypes, Same, Wired, alike, alike_units, chosen}
 use Rattle.moved.proofs.Bytes.{Bytes}
-use Rattle.base.proofs.Lists.{or_parts}
-use Rattle.oce_model.proofs.Accepted.{Accepted, accepted, connector-is, connectors-length}
-use Rattle.oce_model.proofs.Fields.{none-mem, nth, nth-mem, nth-tag}
+use Rattle.oce_model.proofs.Accepted.{Accepted, accepted}
+use Rattle.oce_model.proofs.Records.{connector-type}
 use Rattle.moved.proofs.Clusters.{from-lt, source-lt, to-lt}
 use Rattle.moved.proofs.FilledImage.{slots-caps, slots-numbers}
 use Rattle.moved.proofs.Flow.{Chosen, a-choice, chosen-lt, input-gets, out-units, output-gets, wire-units}
@@ -88,22 +83,6 @@ module _ (m f : Model) (is : Filled m f) where
 
 -- ---- the model of an accepted image
 
--- refusal 6 lets no other type pass
-type-ok : (s : List ℕ) (f : Field) → f.tag ≡ connector_tag → bad_contents s f ≡ false → (connector_at s f.at).value_type ≤ enum_kind
-unfolding bad_contents bad_connector
-type-ok s f e h =
-    let a = eqb f.tag head_tag && bad_head s f.at in
-    let d = connector_at s f.at in
-    let c = ltb 1 d.dir || ltb 4 d.value_type || (not (eqb d.value_type 4) && not (eqb d.enum_class 0)) in
-    let g = (or_parts a (eqb f.tag connector_tag && c) (or_parts (a || (eqb f.tag connector_tag && c)) (on_attrs s bad_attrs (attrs_offset f)) h).0).1 in
-    let k : c ≡ false = rw e at g in
-    ltb-false 4 d.value_type (or_parts (ltb 1 d.dir) _ (or_parts _ _ k).0).1
-
-types : (s : List ℕ) → Accepted s → (i : ℕ) → i < connector_count (model_of s) → (connector (model_of s) i).value_type ≤ enum_kind
-types s acc i l =
-    let k = rw (connectors-length s) at l in
-    rw (connector-is s i l) (type-ok s (nth connector_tag s i) (nth-tag connector_tag s i k) (none-mem (bad_contents s) (fields s) acc.contents (nth connector_tag s i) (nth-mem connector_tag s i k)))
-
 -- the Integer default min is a number of 64 bits
 low_end : (s : List ℕ) → mag (model_of s).defaults.min < 2 ^ 63
 unfolding model_of
@@ -157,7 +136,7 @@ wired s bytes ok clean kinds = record {
   units_out = λ i l.
       rw (is.outputs i l, is.connectors (boundary_output m i).source (source-lt m st i l), units-same m f is.same (slot (filled_slots m) (connector_count m + i)) (slot (filled_slots m) (boundary_output m i).source))
       (out-units m st qu kinds room plain i l);
-  exists = (x₀, λ i h. given x₀ i h (a-choice m st qu kinds room (types s acc) (low_end s) i h));
+  exists = (x₀, λ i h. given x₀ i h (a-choice m st qu kinds room (connector-type s acc) (low_end s) i h));
 }
   where
     m : Model

@@ -12,7 +12,7 @@ ghost use Rattle.oce_diag.specs.Decoded.{severity_of, code_of, subject_from, dec
 mod report;
 
 use base::copy_at;
-use numbers::{at32, byte_at};
+use numbers::LittleEndian;
 use oce_model::{BlockId, ConnectorId, LEADING_BYTES, NO_TEXT};
 pub use report::Report;
 
@@ -26,7 +26,7 @@ pub enum Severity {
 // The Rust's `DiagCode`, those that the rules give.
 #[derive(Clone, Copy)]
 pub enum DiagCode {
-    MalformedDocument,
+    MalformedDocument = 1,
     DirectionMismatch,
     SingleAssignment,
     TypeMismatch,
@@ -159,26 +159,14 @@ pub fn warning(code: DiagCode, rule: u8, detail: u8, subject: Subject, place: u3
 pub fn severity_number(s: Severity) -> u8
     ensures { result ≡ severity_number s }
 {
-    match s {
-        Severity::Error => 0,
-        Severity::Warning => 1,
-    }
+    s as u8
 }
 
 // A code's number in a report.
 pub fn code_number(c: DiagCode) -> u8
     ensures { result ≡ code_number c }
 {
-    match c {
-        DiagCode::MalformedDocument => 1,
-        DiagCode::DirectionMismatch => 2,
-        DiagCode::SingleAssignment => 3,
-        DiagCode::TypeMismatch => 4,
-        DiagCode::UnitQuantityMismatch => 5,
-        DiagCode::BoundMismatch => 6,
-        DiagCode::CrossedBounds => 7,
-        DiagCode::DisplayUnitDivergence => 8,
-    }
+    c as u8
 }
 
 // The number of a subject's kind in a report.
@@ -310,28 +298,22 @@ pub fn subject_from(kind: u8, number: u32) -> Subject
     Subject::Nothing
 }
 
-fn byte_of(s: &[u8], at: usize) -> u8
-    ensures { result ≡ byte s.now at }
-{
-    byte_at(s, at) as u8
-}
-
 // The diagnostic whose bytes begin at an offset of a report.
 pub fn decode(report: &[u8], at: usize) -> Diagnostic
     requires { at + diagnostic_size < long_range }
     ensures { result ≡ decoded_at report.now at }
 {
-    let number = at32(report, at + SUBJECT_NUMBER_PLACE) as u32;
-    let severity = severity_of(byte_of(report, at + SEVERITY_PLACE));
-    let code = code_of(byte_of(report, at + CODE_PLACE));
-    let subject = subject_from(byte_of(report, at + SUBJECT_KIND_PLACE), number);
+    let number = u32::read_padded(report, at + SUBJECT_NUMBER_PLACE);
+    let severity = severity_of(u8::read_padded(report, at + SEVERITY_PLACE));
+    let code = code_of(u8::read_padded(report, at + CODE_PLACE));
+    let subject = subject_from(u8::read_padded(report, at + SUBJECT_KIND_PLACE), number);
     Diagnostic {
         severity,
         code,
-        rule: byte_of(report, at + RULE_PLACE),
-        detail: byte_of(report, at + DETAIL_PLACE),
+        rule: u8::read_padded(report, at + RULE_PLACE),
+        detail: u8::read_padded(report, at + DETAIL_PLACE),
         subject,
-        place: at32(report, at + PLACE_PLACE) as u32,
+        place: u32::read_padded(report, at + PLACE_PLACE),
     }
 }
 

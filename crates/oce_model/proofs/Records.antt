@@ -6,23 +6,23 @@ use mathlib.Core.Path.{sym, ◌∙◌, ap, ◌≡◌, refl}
 use native.Mathlib.Decide.{ℕ_discrete}
 use native.Mathlib.Nat.{not-suc-le-zero, le_of_suc-le-suc, mul-suc, mul-zero}
 use native.Mathlib.Omega.{arith}
-use mathlib.Core.Bool.{Bool, true, false, cond, ◌||◌}
+use mathlib.Core.Bool.{Bool, true, false, cond, not, ◌||◌, ◌&&◌}
 use mathlib.Core.List.{List, [], ◌∷◌}
 use Rattle.std.specs.Prelude.{Some}
 use lib.ListN.{length, get_or, length-map}
 use lib.Dec.{leb, eqb, ltb}
 use Rattle.base.specs.Lists.{keep}
 use Rattle.numbers.specs.Bytes.{byte}
-use Rattle.oce_model.specs.Format.{fixed_length, leading_bytes, text_tag, block_tag, connector_tag, connection_tag, external_input_tag, boundary_input_tag, boundary_output_tag, connector_size, connection_size, external_input_size, boundary_input_size, boundary_output_size}
+use Rattle.oce_model.specs.Format.{head_tag, enum_kind, fixed_length, leading_bytes, text_tag, block_tag, connector_tag, connection_tag, external_input_tag, boundary_input_tag, boundary_output_tag, connector_size, connection_size, external_input_size, boundary_input_size, boundary_output_size}
 use Rattle.oce_model.specs.declared.Dir.TheVariants.{In, Out}
 use Rattle.oce_model.specs.declared.Field.{Field}
 use Rattle.oce_model.specs.Image.{field_at, field_end, fields, fields_from, first, of_tag, or_end, ord_of, start_of}
-use Rattle.oce_model.specs.Model.{Connector, dir_of, inwards, is_in, boundary_input, boundary_input_at, boundary_input_count, boundary_output, boundary_output_at, boundary_output_count, connection, connection_at, connection_count, connector, connector_at, connector_count, external_input_at, model_of}
-use Rattle.oce_model.specs.Refusals.{bad_length, bad_tag, tag_is_bad}
+use Rattle.oce_model.specs.Model.{Connector, dir_of, kind_of, kind_number, inwards, is_in, boundary_input, boundary_input_at, boundary_input_count, boundary_output, boundary_output_at, boundary_output_count, connection, connection_at, connection_count, connector, connector_at, connector_count, external_input_at, model_of}
+use Rattle.oce_model.specs.Refusals.{attrs_offset, bad_attrs, bad_connector, bad_contents, bad_head, bad_length, bad_tag, on_attrs, tag_is_bad}
 use Rattle.base.proofs.Lists.{or_parts}
 use Rattle.base.proofs.Members.{get_or-map}
 use Rattle.oce_model.proofs.Accepted.{Accepted, connection-is, connections-length, connector-is, connectors-length, fixed-length, input-is, inputs-length, output-is, outputs-length}
-use Rattle.oce_model.proofs.Fields.{NonePass, and, nth}
+use Rattle.oce_model.proofs.Fields.{NonePass, and, none-mem, nth, nth-mem, nth-tag}
 
 ascends : (f : Field) → bad_tag f ≡ false → f.prev ≤ f.tag
 unfolding bad_tag tag_is_bad
@@ -163,3 +163,30 @@ inwards_is c = by (is_in c)
     by : (t : Bool) → inwards (cond t In Out) ≡ t
     by true = refl
     by false = refl
+
+-- ---- a type as code has it
+
+-- refusal 6 lets no other type pass
+type-ok : (s : List ℕ) (f : Field) → f.tag ≡ connector_tag → bad_contents s f ≡ false → (connector_at s f.at).value_type ≤ enum_kind
+unfolding bad_contents bad_connector
+type-ok s f e h =
+    let a = eqb f.tag head_tag && bad_head s f.at in
+    let d = connector_at s f.at in
+    let c = ltb 1 d.dir || ltb 4 d.value_type || (not (eqb d.value_type 4) && not (eqb d.enum_class 0)) in
+    let g = (or_parts a (eqb f.tag connector_tag && c) (or_parts (a || (eqb f.tag connector_tag && c)) (on_attrs s bad_attrs (attrs_offset f)) h).0).1 in
+    let k : c ≡ false = rw e at g in
+    ltb-false 4 d.value_type (or_parts (ltb 1 d.dir) _ (or_parts _ _ k).0).1
+
+pub connector-type : (s : List ℕ) → Accepted s → (i : ℕ) → i < connector_count (model_of s) → (connector (model_of s) i).value_type ≤ enum_kind
+connector-type s acc i l =
+    let k = rw (connectors-length s) at l in
+    rw (connector-is s i l) (type-ok s (nth connector_tag s i) (nth-tag connector_tag s i k) (none-mem (bad_contents s) (fields s) acc.contents (nth connector_tag s i) (nth-mem connector_tag s i k)))
+
+pub kind-number : (n : ℕ) → n ≤ enum_kind → kind_number (kind_of n) ≡ n
+unfolding kind_of
+kind-number zero l = refl
+kind-number (suc zero) l = refl
+kind-number (suc (suc zero)) l = refl
+kind-number (suc (suc (suc zero))) l = refl
+kind-number (suc (suc (suc (suc zero)))) l = refl
+kind-number (suc (suc (suc (suc (suc n))))) l = absurd (omega arith)

@@ -2,12 +2,14 @@
 use Rattle.std.specs.Prelude.{ℕ, ◌+◌, ◌*◌, Bool, true, false, cond, List, [], map, length, get_or, eqb, ltb, ℤ}
 use Rattle.base.specs.Lists.{tab}
 use Rattle.numbers.specs.Bytes.{byte, le16, le32, le64, signed64}
-use Rattle.oce_model.specs.Format.{text_tag, block_tag, connector_tag, connection_tag, external_input_tag, boundary_input_tag, boundary_output_tag, port_length, block_ports, dir_in, connector_attrs, boundary_input_attrs, boundary_output_attrs, head_min_at, head_max_at, block_id_at, block_instance_at, block_inputs_at, block_outputs_at, connector_id_at, connector_block_at, connector_dir_at, connector_type_at, connector_class_at, connector_iri_at, connection_from_at, connection_to_at, external_input_id_at, boundary_input_iri_at, boundary_output_iri_at, boundary_output_source_at}
+use Rattle.oce_model.specs.Format.{text_tag, block_tag, connector_tag, connection_tag, external_input_tag, boundary_input_tag, boundary_output_tag, port_length, block_ports, real_kind, integer_kind, boolean_kind, string_kind, enum_kind, dir_in, connector_attrs, boundary_input_attrs, boundary_output_attrs, head_min_at, head_max_at, block_id_at, block_instance_at, block_inputs_at, block_outputs_at, connector_id_at, connector_block_at, connector_dir_at, connector_type_at, connector_class_at, connector_iri_at, connection_from_at, connection_to_at, external_input_id_at, boundary_input_iri_at, boundary_output_iri_at, boundary_output_source_at}
 use Rattle.oce_model.specs.Attributes.{Attrs, no_attrs, attrs_at}
 use Rattle.oce_model.specs.Image.{fields, of_tag}
 use Rattle.oce_model.specs.Texts.{text_of}
 use Rattle.oce_model.specs.declared.Dir.{Dir}
 use Rattle.oce_model.specs.declared.Dir.TheVariants.{In, Out}
+use Rattle.oce_model.specs.declared.Kind.{Kind}
+use Rattle.oce_model.specs.declared.Kind.TheVariants.{Real, Integer, Boolean, String, Enum}
 
 -- the head's Integer defaults: what an Integer end is that isn't set. FORMAT 13
 pub record Defaults : Type 0 where
@@ -199,3 +201,19 @@ dir_of c = cond (is_in c) In Out
 abbrev pub inwards : Dir → Bool
 inwards In = true
 inwards Out = false
+
+-- a type by its number, as code has it: an accepted image has no other
+unfoldable pub kind_of : ℕ → Kind
+kind_of n =
+    cond (eqb n real_kind) Real
+    (cond (eqb n integer_kind) Integer
+    (cond (eqb n boolean_kind) Boolean
+    (cond (eqb n string_kind) String Enum)))
+
+-- its number
+abbrev pub kind_number : Kind → ℕ
+kind_number Real = real_kind
+kind_number Integer = integer_kind
+kind_number Boolean = boolean_kind
+kind_number String = string_kind
+kind_number Enum = enum_kind

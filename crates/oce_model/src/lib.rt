@@ -1,10 +1,10 @@
 // The records of a model, as oce-model has them, and the fields of an image.
 #![tactic(auto)]
 
-ghost use Rattle.std.specs.Prelude.{◌≡◌, ◌<◌};
+ghost use Rattle.std.specs.Prelude.{◌≡◌, ◌<◌, eqb};
 ghost use Rattle.numbers.specs.Bytes.{bit};
 ghost use Rattle.oce_model.specs.Attributes.{num, real_attrs, int_attrs};
-ghost use Rattle.oce_model.specs.Model.{inwards};
+ghost use Rattle.oce_model.specs.Model.{inwards, kind_number};
 
 use numbers::{int_of_bits, is_set, real_of_bits};
 
@@ -41,7 +41,7 @@ pub struct ConnectorFront {
     pub id: ConnectorId,
     pub block: BlockId,
     pub dir: Dir,
-    pub value_type: u8,
+    pub value_type: Kind,
     pub class: u32,
     pub iri: u16,
 }
@@ -121,6 +121,13 @@ impl Dir {
 }
 
 impl Attrs {
+    // They are of a kind.
+    pub fn has_kind(&self, kind: Kind) -> bool
+        ensures { result ≡ eqb self.now.kind (kind_number kind) }
+    {
+        self.kind == kind as u8
+    }
+
     // Bit p is set.
     pub fn is_marked(&self, p: usize) -> bool
         requires { p < 8 }

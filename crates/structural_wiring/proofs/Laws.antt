@@ -8,7 +8,7 @@ use lib.Dec.{eqb}
 use borrow.Author.Tests.{lt-ltb, le-ltb}
 use Rattle.base.specs.Lists.{only}
 use Rattle.oce_model.specs.Format.{most_boundary_outputs, most_connections}
-use Rattle.oce_model.specs.Model.{Model, inwards, BoundaryOutput, Connection as ModelConnection, connector, connection, boundary_output, connector_count, connection_count, boundary_output_count}
+use Rattle.oce_model.specs.Model.{Model, inwards, kind_number, BoundaryOutput, Connection as ModelConnection, connector, connection, boundary_output, connector_count, connection_count, boundary_output_count}
 use Rattle.oce_model.specs.declared.Attrs.{Attrs}
 use Rattle.oce_model.specs.declared.BoundaryOutputFront.{BoundaryOutputFront}
 use Rattle.oce_model.specs.declared.Connection.{Connection}
@@ -30,15 +30,15 @@ use Rattle.structural_wiring.specs.PerRecord.{most_output_faults, most_connectio
 
 module _ (m : Model) (k : BoundaryOutput) (i : ℕ) {n w : ℕ} {o : BoundaryOutputFront} (e : o ≡ output_read k) (ew : w ≡ o.iri) (en : n ≡ connector_count m) where
   -- a boundary output whose source is a connector
-  pub output-inside : {a : Attrs} {c : ConnectorFront} {t : Bool} {x y : Diagnostic} {r r₁ r₂ : Report}
-      → o.source.0 < n → a ≡ k.attrs → c ≡ connector_read (connector m o.source.0) → t ≡ inwards c.dir
+  pub output-inside : {a : Attrs} {c : ConnectorFront} {t h : Bool} {x y : Diagnostic} {r r₁ r₂ : Report}
+      → o.source.0 < n → a ≡ k.attrs → c ≡ connector_read (connector m o.source.0) → kind_number c.value_type ≡ (connector m o.source.0).value_type → t ≡ inwards c.dir
       → x ≡ error DirectionMismatch 2 2 (Text w) i → y ≡ error MalformedDocument 2 3 (Text w) i
-      → Puts 1 (only t x) r r₁ → Puts 1 (only (not (eqb a.kind c.value_type)) y) r₁ r₂
+      → Puts 1 (only t x) r r₁ → h ≡ eqb a.kind (kind_number c.value_type) → Puts 1 (only (not h) y) r₁ r₂
       → Puts most_output_faults (output_faults m i k) r r₂
   unfolding output_faults output_read connector_read
-  output-inside l ea ec et ex ey p q =
+  output-inside l ea ec ct et ex ey p eh q =
       let inside : k.source < connector_count m = rw (e, en) at l in
-      rw (lt-ltb _ _ inside) (puts-then (rw (ex, ew, et, ec, inwards_is, e) at p) (rw (ey, ew, ea, ec, e) at q))
+      rw (lt-ltb _ _ inside) (puts-then (rw (ex, ew, et, ec, inwards_is, e) at p) (rw (ey, ew, eh, ea, ct, e) at q))
 
   -- and one whose source is none
   pub output-outside : {x : Diagnostic} {r r' : Report}
@@ -61,16 +61,17 @@ module _ (m : Model) (k : ModelConnection) (i : ℕ) {n : ℕ} {c : Connection} 
   -- a connection whose ends are connectors
   pub connection-inside : {a b : ConnectorFront} {from to : Subject} {t u same : Bool} {x y z : Diagnostic} {r r₁ r₂ r₃ : Report}
       → c.from.0 < n → c.to.0 < n → a ≡ connector_read (connector m c.from.0) → b ≡ connector_read (connector m c.to.0)
-      → t ≡ inwards a.dir → u ≡ inwards b.dir → from ≡ connector_subject a.iri a.id → to ≡ connector_subject b.iri b.id → same ≡ (eqb a.value_type b.value_type && eqb a.class b.class)
+      → kind_number a.value_type ≡ (connector m c.from.0).value_type → kind_number b.value_type ≡ (connector m c.to.0).value_type
+      → t ≡ inwards a.dir → u ≡ inwards b.dir → from ≡ connector_subject a.iri a.id → to ≡ connector_subject b.iri b.id → same ≡ (eqb (kind_number a.value_type) (kind_number b.value_type) && eqb a.class b.class)
       → x ≡ error DirectionMismatch 4 2 from i → y ≡ error DirectionMismatch 4 3 to i → z ≡ error TypeMismatch 4 4 to i
       → Puts 1 (only t x) r r₁ → Puts 1 (only (not u) y) r₁ r₂ → Puts 1 (only (not same) z) r₂ r₃
       → Puts most_connection_faults (connection_faults m i k) r r₃
   unfolding connection_faults in_range connection_read connector_read subject_of
-  connection-inside l l' ea eb ei eo ef et es ex ey ez p q w =
+  connection-inside l l' ea eb ta tb ei eo ef et es ex ey ez p q w =
       let first : k.from < connector_count m = rw (e, en) at l in
       let second : k.to < connector_count m = rw (e, en) at l' in
       rw (lt-ltb _ _ first, lt-ltb _ _ second)
-      (puts-then (puts-then (rw (ex, ei, ef, ea, inwards_is, e) at p) (rw (ey, eo, et, eb, inwards_is, e) at q)) (rw (ez, es, et, ea, eb, e) at w))
+      (puts-then (puts-then (rw (ex, ei, ef, ea, inwards_is, e) at p) (rw (ey, eo, et, eb, inwards_is, e) at q)) (rw (ez, es, et, ta, tb, ea, eb, e) at w))
 
   outside : {x : Diagnostic} {r r' : Report}
       → in_range m k ≡ false → x ≡ error MalformedDocument 4 1 Nothing i → Puts 1 (x ∷ []) r r' → Puts most_connection_faults (connection_faults m i k) r r'

@@ -4,7 +4,7 @@
 
 ghost use Rattle.std.specs.Prelude.{◌≡◌, ◌&&◌, ◌*◌, ◌<◌, eqb};
 ghost use Rattle.oce_model.specs.Format.{most_boundary_outputs, most_connections};
-ghost use Rattle.oce_model.specs.Model.{model_of, connection, boundary_output, connection_count, boundary_output_count};
+ghost use Rattle.oce_model.specs.Model.{kind_number, model_of, connection, boundary_output, connection_count, boundary_output_count};
 ghost use Rattle.oce_diag.specs.Reporting.{Room, Puts};
 ghost use Rattle.structural.specs.Structural.{output_faults, rule2, connection_faults, rule4};
 ghost use Rattle.structural_wiring.specs.PerRecord.{most_output_faults, most_connection_faults};
@@ -46,12 +46,12 @@ pub fn output_faults(image: &Image, i: usize, report: &mut Report)
     let subject = Subject::Text(u32::from(o.iri));
     let place = i as u32;
     if (o.source.0 as usize) < image.connector_count() {
-        let own = image.boundary_output_attrs(i).kind;
+        let own = image.boundary_output_attrs(i);
         let c = image.connector(o.source);
         let inwards = error(DirectionMismatch, RULE_2, SOURCE_INWARDS, subject, place);
         report.put_if(c.dir.is_in(), inwards);
         let other = error(MalformedDocument, RULE_2, SOURCE_KIND, subject, place);
-        report.put_if(own != c.value_type, other);
+        report.put_if(!own.has_kind(c.value_type), other);
     } else {
         let outside = error(MalformedDocument, RULE_2, SOURCE_OUTSIDE, subject, place);
         report.put(outside);
@@ -72,7 +72,7 @@ pub fn check_boundary_outputs(image: &Image, report: &mut Report)
 
 // Two types are equal, the class of an enum included.
 fn same_type(a: ConnectorFront, b: ConnectorFront) -> bool
-    ensures { result ≡ (eqb a.value_type b.value_type && eqb a.class b.class) }
+    ensures { result ≡ (eqb (kind_number a.value_type) (kind_number b.value_type) && eqb a.class b.class) }
 {
     a.value_type == b.value_type && a.class == b.class
 }

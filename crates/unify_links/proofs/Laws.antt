@@ -14,7 +14,8 @@ use lib.Seq.{get_or-set_same, get_or-set_other, get_or-append_seam, take-suc-set
 use borrow.Author.Tests.{eq-eqb, ne_eqb, lt-ltb, le-ltb, ltb-true, ltb-false}
 use Rattle.base.specs.Lists.{each, only}
 use Rattle.base.proofs.Lists.{and_parts, each_next, each-add, each_same}
-use Rattle.oce_model.specs.Model.{Connection as ModelConnection, BoundaryOutput, Model, connector, connection, boundary_output, connector_count, connection_count, boundary_output_count, is_connector, inwards, is_in}
+use Rattle.oce_model.specs.Model.{Connection as ModelConnection, BoundaryOutput, Model, connector, connection, boundary_output, connector_count, connection_count, boundary_output_count, is_connector, inwards, is_in, kind_number}
+use Rattle.oce_model.specs.declared.Attrs.{Attrs}
 use Rattle.oce_model.proofs.Records.{inwards_is}
 use Rattle.oce_model.specs.declared.Connection.{Connection}
 use Rattle.oce_model.specs.declared.ConnectorId.{ConnectorId}
@@ -101,25 +102,24 @@ module _ (m : Model) {n : ℕ} (en : n ≡ connector_count m) where
       unfolding connector_read
       same-dir h = h ∙ ap (λ (c : ConnectorFront). inwards c.dir) ec ∙ inwards_is (connector m q.source.0) ∙ ap (λ (x : ℕ). is_in (connector m x)) same_source
 
-      same-type : c.value_type ≡ (connector m (boundary_output m i).source).value_type
-      unfolding connector_read
-      same-type = ap (λ (c : ConnectorFront). c.value_type) ec ∙ ap (λ (x : ℕ). (connector m x).value_type) same_source
-
       pub output-in : {t : Bool} → t ≡ inwards c.dir → t ≡ true → None ≡ output_root m (boundary_output m i)
       unfolding output_root sound
       output-in h e = rw (lt-ltb _ _ near, sym (same-dir h) ∙ e)
 
-      module _ {k : ℕ} {t : Bool} (h : t ≡ inwards c.dir) (d : t ≡ false) (ek : k ≡ (boundary_output m i).attrs.kind) where
-        pub output-sound : k ≡ c.value_type → Some q.source ≡ output_root m (boundary_output m i)
+      module _ {w : Attrs} {t u : Bool} (h : t ≡ inwards c.dir) (d : t ≡ false) (ew : w ≡ (boundary_output m i).attrs)
+          (ek : kind_number c.value_type ≡ (connector m q.source.0).value_type) (eu : u ≡ eqb w.kind (kind_number c.value_type)) where
+        same-type : u ≡ eqb (boundary_output m i).attrs.kind (connector m (boundary_output m i).source).value_type
+        same-type = rw (ew, ek, same_source) at eu
+
+        pub output-sound : u ≡ true → Some q.source ≡ output_root m (boundary_output m i)
         unfolding output_root sound output_read
         output-sound e =
-            rw (lt-ltb _ _ near, sym (same-dir h) ∙ d, eq-eqb _ _ (sym ek ∙ e ∙ same-type))
+            rw (lt-ltb _ _ near, sym (same-dir h) ∙ d, sym same-type ∙ e)
             (ap (λ (o : BoundaryOutputFront). Some o.source) eq)
 
-        pub output-other : (k ≡ c.value_type → ⊥) → None ≡ output_root m (boundary_output m i)
+        pub output-other : u ≡ false → None ≡ output_root m (boundary_output m i)
         unfolding output_root sound
-        output-other e =
-            rw (lt-ltb _ _ near, sym (same-dir h) ∙ d, ne_eqb _ _ (λ x. e (ek ∙ x ∙ sym same-type)))
+        output-other e = rw (lt-ltb _ _ near, sym (same-dir h) ∙ d, sym same-type ∙ e)
 
 -- link k is a connection, or else a boundary output
 module _ (m : Model) {n : ℕ} (en : n ≡ connection_count m) (k : ℕ) where

@@ -54,7 +54,7 @@ fn output_root(image: &Image, i: usize) -> Option<ConnectorId>
         return None;
     }
     let c = image.connector(source);
-    if !c.dir.is_in() && image.boundary_output_attrs(i).kind == c.value_type {
+    if !c.dir.is_in() && image.boundary_output_attrs(i).has_kind(c.value_type) {
         Some(source)
     } else {
         None

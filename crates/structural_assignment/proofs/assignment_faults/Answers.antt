@@ -8,11 +8,11 @@ use Rattle.structural_assignment.proofs.assignment_faults.Goals as goal
 
 pub returns-then-is_in : goal.returns-then-is_in
 returns-then-is_in c =
-    let e = c.connector-c.ensures ∙ ap (λ s. connector_read (connector (model_of s) c.args.i.0)) c.image.ensures in
+    let e = c.connector-c.ensures.0 ∙ ap (λ s. connector_read (connector (model_of s) c.args.i.0)) c.image.ensures in
     assigned _ _ e c.is_in.ensures c.if-is_in.true c.subject_of-subject.ensures c.degree-d.ensures
     (c.contains-outside.ensures ∙ ap (λ s. external (model_of s) c.connector-c.result.id.0) c.requires.0) c.none_or_many.ensures
 
 pub returns-else-is_in : goal.returns-else-is_in
 returns-else-is_in c =
-    let e = c.connector-c.ensures ∙ ap (λ s. connector_read (connector (model_of s) c.args.i.0)) c.image.ensures in
+    let e = c.connector-c.ensures.0 ∙ ap (λ s. connector_read (connector (model_of s) c.args.i.0)) c.image.ensures in
     not-assigned _ _ e c.is_in.ensures c.if-is_in.false

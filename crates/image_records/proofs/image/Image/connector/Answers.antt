@@ -1,4 +1,4 @@
-use Rattle.image_records.proofs.Laws.{connector-near, connector-inside, connector-read}
+use Rattle.image_records.proofs.Laws.{connector-near, connector-inside, connector-read, connector-typed}
 use Rattle.image_records.proofs.Images.{a-connector}
 use Rattle.image_records.proofs.image.Image.connector.Goals as goal
 
@@ -11,4 +11,5 @@ connector_at-requires c = (c.record_at.ensures.1, connector-inside c.self.invari
 pub returns : goal.returns
 returns c =
     let k = a-connector c.self.view_is c.self.invariant.0 c.requires in
-    rw (← c.self.view_is) (connector-read c.self.invariant.0 k c.record_at.ensures.0 c.connector_at.ensures)
+    let e = connector-read c.self.invariant.0 k c.record_at.ensures.0 c.connector_at.ensures in
+    rw (← c.self.view_is) (e, connector-typed c.self.invariant.0 k e)
