@@ -15,7 +15,7 @@ ghost use Rattle.image_accept.specs.Passing.{Begun, listed};
 use image_contents::{bad_contents, bad_reference};
 use image_faults::{bad_length, bad_tag, bad_text, too_many};
 use image_framing::{Fields, end_of, first_fault, frame};
-use image_sieve::is_faulty;
+use image_sieve::Sieve;
 use numbers::{LittleEndian, int_of_bits};
 use oce_model::{
     BLOCK_TAG, BOUNDARY_INPUT_TAG, BOUNDARY_OUTPUT_TAG, CONNECTION_TAG, CONNECTOR_TAG,
@@ -70,6 +70,13 @@ impl Tables {
     };
 }
 
+// The bytes of an image of a good size.
+#[derive(Clone, Copy)]
+struct GoodSize<'a> {
+    bytes: &'a [u8],
+    ghost size: { (shortest_image ≤ length bytes.now) × (length bytes.now ≤ longest_image) },
+}
+
 // ---- one pass for an image with nothing at fault
 
 // Notes one more field of its tag. The sections of tags behind the one before begin with it.
@@ -93,52 +100,58 @@ fn list(table: &mut [usize], tag: usize, f: Field)
     }
 }
 
-// A field that lies in the image is at fault under one of refusals 4 to 8, where there are n texts, or is the first
-// of its tag and has a bad one. Where others of its tag stand right before it, its tag is good, unless it is one too many.
-fn is_refused(n: usize, s: &[u8], f: Field) -> bool
-    requires { (end_of f ≤ length s.now) × (length s.now ≤ longest_image) }
-    ensures { result ≡ (at_fault n s.now f || (eqb f.ord 0 && bad_tag f)) }
+// A field is at fault under one of refusals 4 to 8, or is the first of its tag and has a bad one. Where others of
+// its tag stand right before it, its tag is good, unless it is one too many.
+fn is_refused(sieve: &Sieve) -> bool
+    ensures { result ≡ (at_fault sieve.now.texts sieve.now.bytes.now sieve.now.field || (eqb sieve.now.field.ord 0 && bad_tag sieve.now.field)) }
 {
-    is_faulty(n, s, f) || f.ord == 0 && bad_tag(f)
+    sieve.is_faulty() || sieve.field.ord == 0 && bad_tag(sieve.field)
 }
 
-// Passes the fields once, up to the first that is at fault under one of refusals 2 to 8: the layout of an image
-// that is accepted, with the offsets of its texts and blocks in the tables.
-fn survey(s: &[u8], tables: &mut Tables) -> Option<Layout>
-    requires { (shortest_image ≤ length s.now) × (length s.now ≤ longest_image) }
-    ensures layout { result ≡ result_ok (acceptance s.now) }
-    ensures texts { TabledIfAccepted text_tag s.now tables.new.texts }
-    ensures blocks { TabledIfAccepted block_tag s.now tables.new.blocks }
-{
-    let behind_all = Section {
-        start: s.len(),
-        count: 0,
-    };
-    let mut sections = [behind_all; TAG_COUNT];
-    let mut end = 0;
-    for f in Fields::of(s) {
-        if is_refused(sections[TEXT_TAG].count, s, f) {
+impl GoodSize<'_> {
+    // Passes the fields once, up to the first that is at fault under one of refusals 2 to 8: the layout of an image
+    // that is accepted, with the offsets of its texts and blocks in the tables.
+    fn survey(&self, tables: &mut Tables) -> Option<Layout>
+        ensures layout { result ≡ result_ok (acceptance self.now.bytes.now) }
+        ensures texts { TabledIfAccepted text_tag self.now.bytes.now tables.new.texts }
+        ensures blocks { TabledIfAccepted block_tag self.now.bytes.now tables.new.blocks }
+    {
+        let s = self.bytes;
+        let behind_all = Section {
+            start: s.len(),
+            count: 0,
+        };
+        let mut sections = [behind_all; TAG_COUNT];
+        let mut end = 0;
+        for f in Fields::of(s) {
+            let sieve = Sieve {
+                texts: sections[TEXT_TAG].count,
+                bytes: s,
+                field: f,
+            };
+            if is_refused(&sieve) {
+                return None;
+            }
+            note(&mut sections, f);
+            list(&mut tables.texts, TEXT_TAG, f);
+            list(&mut tables.blocks, BLOCK_TAG, f);
+            end = end_of(f);
+        }
+        if end < s.len() {
             return None;
         }
-        note(&mut sections, f);
-        list(&mut tables.texts, TEXT_TAG, f);
-        list(&mut tables.blocks, BLOCK_TAG, f);
-        end = end_of(f);
+        Some(Layout {
+            texts: sections[TEXT_TAG],
+            blocks: sections[BLOCK_TAG],
+            connectors: sections[CONNECTOR_TAG],
+            connections: sections[CONNECTION_TAG],
+            externals: sections[EXTERNAL_INPUT_TAG],
+            inputs: sections[BOUNDARY_INPUT_TAG],
+            outputs: sections[BOUNDARY_OUTPUT_TAG],
+            min: int_of_bits(u64::read_padded(s, HEAD_MIN_AT)),
+            max: int_of_bits(u64::read_padded(s, HEAD_MAX_AT)),
+        })
     }
-    if end < s.len() {
-        return None;
-    }
-    Some(Layout {
-        texts: sections[TEXT_TAG],
-        blocks: sections[BLOCK_TAG],
-        connectors: sections[CONNECTOR_TAG],
-        connections: sections[CONNECTION_TAG],
-        externals: sections[EXTERNAL_INPUT_TAG],
-        inputs: sections[BOUNDARY_INPUT_TAG],
-        outputs: sections[BOUNDARY_OUTPUT_TAG],
-        min: int_of_bits(u64::read_padded(s, HEAD_MIN_AT)),
-        max: int_of_bits(u64::read_padded(s, HEAD_MAX_AT)),
-    })
 }
 
 // ---- refusals, one after the other
@@ -174,46 +187,45 @@ fn refuse(number: u32, found: Option<usize>) -> Result<(), Refusal>
     }
 }
 
-// The same for the first field that passes a test.
-fn refuse_first<F: Fn(Field) -> bool>(s: &[u8], number: u32, test: F) -> Result<(), Refusal>
-    requires size { length s.now ≤ longest_image }
-    requires tested { (f : Field) → end_of f ≤ length s.now → F.pre test f }
-    ensures { (p : Field → Bool) → Tests (F.post test) s.now p → result ≡ refused_by number (first p (fields s.now)) }
-{
-    refuse(number, first_fault(s, test))
-}
+impl GoodSize<'_> {
+    // The same for the first field that passes a test.
+    fn refuse_first<F: Fn(Field) -> bool>(&self, number: u32, test: F) -> Result<(), Refusal>
+        requires { (f : Field) → end_of f ≤ length self.now.bytes.now → F.pre test f }
+        ensures { (p : Field → Bool) → Tests (F.post test) self.now.bytes.now p → result ≡ refused_by number (first p (fields self.now.bytes.now)) }
+    {
+        refuse(number, first_fault(self.bytes, test))
+    }
 
-// How many texts there are.
-fn text_count(s: &[u8]) -> usize
-    requires { length s.now ≤ longest_image }
-    ensures { result ≡ length (of_tag text_tag (fields s.now)) }
-{
-    Fields::of(s).filter(|f| f.tag == TEXT_TAG).count()
-}
+    // How many texts there are.
+    fn text_count(&self) -> usize
+        ensures { result ≡ length (of_tag text_tag (fields self.now.bytes.now)) }
+    {
+        Fields::of(self.bytes).filter(|f| f.tag == TEXT_TAG).count()
+    }
 
-// Refusals 4 to 8.
-fn refuse_fields(s: &[u8]) -> Result<(), Refusal>
-    requires { length s.now ≤ longest_image }
-    ensures { result ≡ refused (refusals_from 5 4 s.now (fields s.now)) }
-{
-    let n = text_count(s);
-    refuse_first(s, BAD_LENGTH, |f| bad_length(s, f))?;
-    refuse_first(s, TOO_MANY, too_many)?;
-    refuse_first(s, BAD_CONTENTS, |f| bad_contents(s, f))?;
-    refuse_first(s, BAD_TEXT, |f| bad_text(s, f))?;
-    refuse_first(s, BAD_REFERENCE, |f| bad_reference(n, s, f))
-}
+    // Refusals 4 to 8.
+    fn refuse_fields(&self) -> Result<(), Refusal>
+        ensures { result ≡ refused (refusals_from 5 4 self.now.bytes.now (fields self.now.bytes.now)) }
+    {
+        let s = self.bytes;
+        let n = self.text_count();
+        self.refuse_first(BAD_LENGTH, |f| bad_length(s, f))?;
+        self.refuse_first(TOO_MANY, too_many)?;
+        self.refuse_first(BAD_CONTENTS, |f| bad_contents(s, f))?;
+        self.refuse_first(BAD_TEXT, |f| bad_text(s, f))?;
+        self.refuse_first(BAD_REFERENCE, |f| bad_reference(n, s, f))
+    }
 
-// Refusals 2 to 8, for an image of a good length.
-fn refuse_image(s: &[u8]) -> Result<(), Refusal>
-    requires { (shortest_image ≤ length s.now) × (length s.now ≤ longest_image) }
-    ensures { result ≡ refused (refusal s.now) }
-{
-    match frame(s) {
-        Err(at) => refuse(RUNS_PAST, Some(at)),
-        Ok(bad) => {
-            refuse(BAD_TAG, bad)?;
-            refuse_fields(s)
+    // Refusals 2 to 8.
+    fn refuse(&self) -> Result<(), Refusal>
+        ensures { result ≡ refused (refusal self.now.bytes.now) }
+    {
+        match frame(self.bytes) {
+            Err(at) => refuse(RUNS_PAST, Some(at)),
+            Ok(bad) => {
+                refuse(BAD_TAG, bad)?;
+                self.refuse_fields()
+            }
         }
     }
 }
@@ -241,8 +253,9 @@ pub fn accept(image: &[u8], tables: &mut Tables) -> Result<Layout, Refusal>
             offset: 0,
         });
     }
-    match survey(image, tables) {
+    let image = GoodSize { bytes: image };
+    match image.survey(tables) {
         Some(layout) => Ok(layout),
-        None => Err(refuse_image(image).unwrap_err()),
+        None => Err(image.refuse().unwrap_err()),
     }
 }

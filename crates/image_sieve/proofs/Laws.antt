@@ -86,22 +86,22 @@ module _ (n : ℕ) (s : List ℕ) (f : Field) where
   others-are a b c d e g =
       rw (ne_eqb f.tag head_tag a, ne_eqb f.tag text_tag b, ne_eqb f.tag block_tag c, ne_eqb f.tag connector_tag d, ne_eqb f.tag boundary_input_tag e, ne_eqb f.tag boundary_output_tag g) refl
 
--- ---- a record of a fixed size that has its length lies in the image
+-- ---- a record of a fixed size that has its length holds its parts
 
-module _ (s : List ℕ) (f : Field) (L : bad_length s f ≡ false) {w : ℕ} (i : f.at + leading_bytes + f.len ≤ w) where
+module _ (s : List ℕ) (f : Field) (L : bad_length s f ≡ false) where
   fixed : (t : ℕ) → f.tag ≡ t → eqb t text_tag ≡ false → eqb t block_tag ≡ false → f.len ≡ fixed_length t
   unfolding bad_length
   fixed t e a b = eqb-true f.len (fixed_length t) (not-false (eqb f.len (fixed_length t)) (rw (e, a, b) at L))
 
-  pub connector-inside : f.tag ≡ connector_tag → f.at + connector_size ≤ w
+  pub connector-inside : f.tag ≡ connector_tag → connector_size ≤ leading_bytes + f.len
   unfolding fixed_length
   connector-inside e = omega (arith, fixed connector_tag e refl refl)
 
-  pub input-inside : f.tag ≡ boundary_input_tag → f.at + boundary_input_attrs + attrs_length ≤ w
+  pub input-inside : f.tag ≡ boundary_input_tag → boundary_input_attrs + attrs_length ≤ leading_bytes + f.len
   unfolding fixed_length
   input-inside e = omega (arith, fixed boundary_input_tag e refl refl)
 
-  pub output-inside : f.tag ≡ boundary_output_tag → f.at + boundary_output_attrs + attrs_length ≤ w
+  pub output-inside : f.tag ≡ boundary_output_tag → boundary_output_attrs + attrs_length ≤ leading_bytes + f.len
   unfolding fixed_length
   output-inside e = omega (arith, fixed boundary_output_tag e refl refl)
 

@@ -21,86 +21,97 @@ use oce_model::{
     CONNECTOR_TYPE_AT, Field, HEAD_TAG, LEADING_BYTES, TEXT_TAG,
 };
 
-// ---- contents, where there are n texts
-
-// Attributes at fault under refusal 6 or 8.
-#[tactic(auto, unfolding(crate::specs::Faulty::attrs_faulty))]
-fn attrs_faulty(n: usize, s: &[u8], at: usize) -> bool
-    requires { at + attrs_length ≤ length s.now }
-    ensures { result ≡ attrs_faulty n (attrs_at s.now at) }
-{
-    let a = attrs_inside(s, at);
-    bad_attrs(&a) | bad_text_numbers(n, &a)
+// A field that lies in an image of a good size, and how many texts there are.
+#[derive(Clone, Copy)]
+pub struct Sieve<'a> {
+    pub texts: usize,
+    pub bytes: &'a [u8],
+    pub field: Field,
+    pub ghost inside: { field.at + leading_bytes + field.len ≤ length bytes.now },
+    pub ghost size: { length bytes.now ≤ longest_image },
 }
 
-// The same of a connector.
-#[tactic(auto, unfolding(crate::specs::Faulty::connector_faulty, oce_model::specs::Model::connector_at, oce_model::specs::Refusals::bad_connector))]
-fn connector_faulty(n: usize, s: &[u8], at: usize) -> bool
-    requires { at + connector_size ≤ length s.now }
-    ensures { result ≡ connector_faulty n (connector_at s.now at) }
-{
-    let dir = read8(s, at + CONNECTOR_DIR_AT);
-    let value_type = read8(s, at + CONNECTOR_TYPE_AT);
-    let class = read32(s, at + CONNECTOR_CLASS_AT);
-    bad_type(dir, value_type, class)
-        | bad_or_none(n, read16(s, at + CONNECTOR_IRI_AT))
-        | attrs_faulty(n, s, at + CONNECTOR_ATTRS)
-}
+impl Sieve<'_> {
+    // ---- contents
 
-// The same of a boundary record, whose attributes stand at an offset of it.
-#[tactic(auto, unfolding(crate::specs::Faulty::boundary_faulty))]
-fn boundary_faulty(n: usize, s: &[u8], at: usize, attrs: usize) -> bool
-    requires { (boundary_input_attrs ≤ attrs) × (at + attrs + attrs_length ≤ length s.now) }
-    ensures { result ≡ boundary_faulty n (le16 s.now (at + leading_bytes)) (attrs_at s.now (at + attrs)) }
-{
-    (n <= read16(s, at + LEADING_BYTES)) | attrs_faulty(n, s, at + attrs)
-}
+    // The attributes at an offset of the field, at fault under refusal 6 or 8.
+    #[tactic(auto, unfolding(crate::specs::Faulty::attrs_faulty))]
+    fn attrs_faulty(&self, at: usize) -> bool
+        requires { at + attrs_length ≤ leading_bytes + self.now.field.len }
+        ensures { result ≡ attrs_faulty self.now.texts (attrs_at self.now.bytes.now (self.now.field.at + at)) }
+    {
+        let a = attrs_inside(self.bytes, self.field.at + at);
+        bad_attrs(&a) | bad_text_numbers(self.texts, &a)
+    }
 
-// A field whose length is its tag's is at fault under one of refusals 6 to 8. A block has a test of its own.
-fn contents_faulty(n: usize, s: &[u8], f: Field) -> bool
-    requires inside { f.at + leading_bytes + f.len ≤ length s.now }
-    requires size { length s.now ≤ longest_image }
-    requires other_tag { f.tag ≢ block_tag }
-    requires good_length { bad_length s.now f ≡ false }
-    ensures { result ≡ (bad_contents s.now f || bad_text s.now f || bad_reference n s.now f) }
-{
-    match f.tag {
-        HEAD_TAG => bad_head(s, f.at),
-        TEXT_TAG => {
-            let at = f.at + LEADING_BYTES;
-            has_bad_byte(&s[at..at + f.len])
+    // The same of a connector.
+    #[tactic(auto, unfolding(crate::specs::Faulty::connector_faulty, oce_model::specs::Model::connector_at, oce_model::specs::Refusals::bad_connector))]
+    fn connector_faulty(&self) -> bool
+        requires { connector_size ≤ leading_bytes + self.now.field.len }
+        ensures { result ≡ connector_faulty self.now.texts (connector_at self.now.bytes.now self.now.field.at) }
+    {
+        let at = self.field.at;
+        let dir = read8(self.bytes, at + CONNECTOR_DIR_AT);
+        let value_type = read8(self.bytes, at + CONNECTOR_TYPE_AT);
+        let class = read32(self.bytes, at + CONNECTOR_CLASS_AT);
+        bad_type(dir, value_type, class)
+            | bad_or_none(self.texts, read16(self.bytes, at + CONNECTOR_IRI_AT))
+            | self.attrs_faulty(CONNECTOR_ATTRS)
+    }
+
+    // The same of a boundary record, whose attributes stand at an offset of it.
+    #[tactic(auto, unfolding(crate::specs::Faulty::boundary_faulty))]
+    fn boundary_faulty(&self, attrs: usize) -> bool
+        requires { (boundary_input_attrs ≤ attrs) × (attrs + attrs_length ≤ leading_bytes + self.now.field.len) }
+        ensures { result ≡ boundary_faulty self.now.texts (le16 self.now.bytes.now (self.now.field.at + leading_bytes)) (attrs_at self.now.bytes.now (self.now.field.at + attrs)) }
+    {
+        (self.texts <= read16(self.bytes, self.field.at + LEADING_BYTES)) | self.attrs_faulty(attrs)
+    }
+
+    // Its length is its tag's, and it is at fault under one of refusals 6 to 8. A block has a test of its own.
+    fn contents_faulty(&self) -> bool
+        requires other_tag { self.now.field.tag ≢ block_tag }
+        requires good_length { bad_length self.now.bytes.now self.now.field ≡ false }
+        ensures { result ≡ (bad_contents self.now.bytes.now self.now.field || bad_text self.now.bytes.now self.now.field || bad_reference self.now.texts self.now.bytes.now self.now.field) }
+    {
+        match self.field.tag {
+            HEAD_TAG => bad_head(self.bytes, self.field.at),
+            TEXT_TAG => {
+                let at = self.field.at + LEADING_BYTES;
+                has_bad_byte(&self.bytes[at..at + self.field.len])
+            }
+            CONNECTOR_TAG => self.connector_faulty(),
+            BOUNDARY_INPUT_TAG => self.boundary_faulty(BOUNDARY_INPUT_ATTRS),
+            BOUNDARY_OUTPUT_TAG => self.boundary_faulty(BOUNDARY_OUTPUT_ATTRS),
+            _ => false,
         }
-        CONNECTOR_TAG => connector_faulty(n, s, f.at),
-        BOUNDARY_INPUT_TAG => boundary_faulty(n, s, f.at, BOUNDARY_INPUT_ATTRS),
-        BOUNDARY_OUTPUT_TAG => boundary_faulty(n, s, f.at, BOUNDARY_OUTPUT_ATTRS),
-        _ => false,
     }
-}
 
-// ---- a field at fault under one of refusals 4 to 8, where there are n texts
+    // ---- refusals 4 to 8
 
-fn block_faulty(n: usize, s: &[u8], f: Field) -> bool
-    requires { (f.tag ≡ block_tag) × (f.at + leading_bytes + f.len ≤ length s.now) × (length s.now ≤ longest_image) }
-    ensures { result ≡ at_fault n s.now f }
-{
-    if f.len < BLOCK_LENGTH {
-        return true;
+    // A block is at fault.
+    fn block_faulty(&self) -> bool
+        requires { self.now.field.tag ≡ block_tag }
+        ensures { result ≡ at_fault self.now.texts self.now.bytes.now self.now.field }
+    {
+        let f = self.field;
+        if f.len < BLOCK_LENGTH {
+            return true;
+        }
+        let inputs = read16(self.bytes, f.at + BLOCK_INPUTS_AT);
+        let outputs = read16(self.bytes, f.at + BLOCK_OUTPUTS_AT);
+        bad_ports(f.len, inputs, outputs)
+            | too_many(f)
+            | bad_or_none(self.texts, read16(self.bytes, f.at + BLOCK_INSTANCE_AT))
     }
-    let inputs = read16(s, f.at + BLOCK_INPUTS_AT);
-    let outputs = read16(s, f.at + BLOCK_OUTPUTS_AT);
-    bad_ports(f.len, inputs, outputs)
-        | too_many(f)
-        | bad_or_none(n, read16(s, f.at + BLOCK_INSTANCE_AT))
-}
 
-// Any field.
-pub fn is_faulty(n: usize, s: &[u8], f: Field) -> bool
-    requires inside { f.at + leading_bytes + f.len ≤ length s.now }
-    requires size { length s.now ≤ longest_image }
-    ensures { result ≡ at_fault n s.now f }
-{
-    if f.tag == BLOCK_TAG {
-        return block_faulty(n, s, f);
+    // Any field is at fault.
+    pub fn is_faulty(&self) -> bool
+        ensures { result ≡ at_fault self.now.texts self.now.bytes.now self.now.field }
+    {
+        if self.field.tag == BLOCK_TAG {
+            return self.block_faulty();
+        }
+        bad_length(self.bytes, self.field) || too_many(self.field) | self.contents_faulty()
     }
-    bad_length(s, f) || too_many(f) | contents_faulty(n, s, f)
 }

@@ -13,16 +13,13 @@ returns-then-bad_size-clause-texts c = table-sized c.args.image.now c.bad_size.e
 pub returns-then-bad_size-clause-blocks : goal.returns-then-bad_size-clause-blocks
 returns-then-bad_size-clause-blocks c = table-sized c.args.image.now c.bad_size.ensures block_tag _ c.if-bad_size.true
 
-pub survey-requires : goal.survey-requires
-survey-requires c = good-size c.args.image.now c.bad_size.ensures c.if-bad_size.false
-
-pub refuse_image-requires : goal.refuse_image-requires
-refuse_image-requires c = good-size c.args.image.now c.bad_size.ensures c.if-bad_size.false
+pub invariant_of-image : goal.invariant_of-image
+invariant_of-image c = record { size = good-size c.args.image.now c.bad_size.ensures c.if-bad_size.false }
 
 pub unwrap_err-requires : goal.unwrap_err-requires
-unwrap_err-requires c = rw (is-refused c.args.image.now c.in-None.ensures.layout c.refuse_image.ensures).is refl
+unwrap_err-requires c = rw (is-refused c.args.image.now c.in-None.ensures.layout c.refuse.ensures).is refl
 
 pub returns-in-None-clause-answer : goal.returns-in-None-clause-answer
 returns-in-None-clause-answer c =
-    let w = is-refused c.args.image.now c.in-None.ensures.layout c.refuse_image.ensures in
+    let w = is-refused c.args.image.now c.in-None.ensures.layout c.refuse.ensures in
     same-error (sym c.unwrap_err.ensures ∙ w.is) ∙ w.answer

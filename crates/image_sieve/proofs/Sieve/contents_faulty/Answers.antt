@@ -1,7 +1,7 @@
 -- `contents_faulty` meets its contract: each tag.
 use borrow.Author.Rules.{rules}
 use Rattle.image_sieve.proofs.Laws.{connector-inside, input-inside, output-inside, head-are, text-are, connector-are, input-are, output-are, others-are}
-use Rattle.image_sieve.proofs.contents_faulty.Goals as goal
+use Rattle.image_sieve.proofs.Sieve.contents_faulty.Goals as goal
 
 pub connector_faulty-requires : goal.connector_faulty-requires
 connector_faulty-requires c = search (connector-inside, rules)

@@ -4,16 +4,16 @@ use native.Mathlib.Omega.{arith}
 use Rattle.std.proofs.Common.{rules}
 use Rattle.oce_model.specs.Format.{text_tag, block_tag, most}
 use Rattle.image_accept.proofs.Surveying.{laid, survey-accepted, not-accepted, not-tabled, survey-cut, survey-fits, survey-lists, survey-next, survey-notes, survey-refused, survey-section, survey-start, survey-texts, survey-blocks}
-use Rattle.image_accept.proofs.survey.Goals as goal
+use Rattle.image_accept.proofs.GoodSize.survey.Goals as goal
 
 pub loop-f-init : goal.loop-f-init
 loop-f-init c = survey-start _ _ (c.into_iter-f-iterator.ensures.into_iter_gives ∙ c.of-f-items.ensures)
 
-pub is_refused-requires : goal.is_refused-requires
-is_refused-requires c = (survey-fits c.loop-f.invariant c.in-Some.ensures.steps, c.requires.1)
+pub invariant_of-sieve-clause-inside : goal.invariant_of-sieve-clause-inside
+invariant_of-sieve-clause-inside c = survey-fits c.loop-f.invariant c.in-Some.ensures.steps
 
 pub returns-then-is_refused-clause-layout : goal.returns-then-is_refused-clause-layout
-returns-then-is_refused-clause-layout c = not-accepted c.args.s.now (survey-refused c.loop-f.invariant c.in-Some.ensures.steps c.is_refused.ensures c.if-is_refused.true)
+returns-then-is_refused-clause-layout c = not-accepted c.args.self.now.bytes.now (survey-refused c.loop-f.invariant c.in-Some.ensures.steps c.is_refused.ensures c.if-is_refused.true)
 
 pub returns-then-is_refused-clause-texts : goal.returns-then-is_refused-clause-texts
 returns-then-is_refused-clause-texts c = not-tabled text_tag _ (survey-refused c.loop-f.invariant c.in-Some.ensures.steps c.is_refused.ensures c.if-is_refused.true)
@@ -26,21 +26,21 @@ note-requires c = survey-notes c.loop-f.invariant c.in-Some.ensures.steps c.is_r
 
 pub list-requires : goal.list-requires
 unfolding most
-list-requires c = survey-lists c.loop-f.invariant c.in-Some.ensures.steps c.is_refused.ensures c.if-is_refused.false text_tag _ (omega (arith, c.loop-f.invariant.texts-listed.long, c.told-tables))
+list-requires c = survey-lists c.loop-f.invariant c.in-Some.ensures.steps c.is_refused.ensures c.if-is_refused.false text_tag _ (omega (arith, c.loop-f.invariant.texts-listed.long))
 
 pub list-requires-in-loop-f : goal.list-requires-in-loop-f
 unfolding most
-list-requires-in-loop-f c = survey-lists c.loop-f.invariant c.in-Some.ensures.steps c.is_refused.ensures c.if-is_refused.false block_tag _ (omega (arith, c.loop-f.invariant.blocks-listed.long, c.told-tables))
+list-requires-in-loop-f c = survey-lists c.loop-f.invariant c.in-Some.ensures.steps c.is_refused.ensures c.if-is_refused.false block_tag _ (omega (arith, c.loop-f.invariant.blocks-listed.long))
 
 pub end_of-end-requires : goal.end_of-end-requires
-end_of-end-requires c = omega (arith, c.requires, survey-fits c.loop-f.invariant c.in-Some.ensures.steps)
+end_of-end-requires c = omega (arith, c.args.self.now.size, survey-fits c.loop-f.invariant c.in-Some.ensures.steps)
 
 pub loop-f-preserved : goal.loop-f-preserved
 unfolding most
-loop-f-preserved c = survey-next c.loop-f.invariant c.in-Some.ensures.steps c.is_refused.ensures c.if-is_refused.false (omega (arith, c.loop-f.invariant.texts-listed.long, c.told-tables)) (omega (arith, c.loop-f.invariant.blocks-listed.long, c.told-tables)) c.note.ensures c.list.ensures c.list-in-loop-f.ensures c.end_of-end.ensures
+loop-f-preserved c = survey-next c.loop-f.invariant c.in-Some.ensures.steps c.is_refused.ensures c.if-is_refused.false (omega (arith, c.loop-f.invariant.texts-listed.long)) (omega (arith, c.loop-f.invariant.blocks-listed.long)) c.note.ensures c.list.ensures c.list-in-loop-f.ensures c.end_of-end.ensures
 
 pub returns-then-end-s-clause-layout : goal.returns-then-end-s-clause-layout
-returns-then-end-s-clause-layout c = not-accepted c.args.s.now (survey-cut c.loop-f.invariant c.in-None.ensures.steps.0 c.if-end-s.true)
+returns-then-end-s-clause-layout c = not-accepted c.args.self.now.bytes.now (survey-cut c.loop-f.invariant c.in-None.ensures.steps.0 c.if-end-s.true)
 
 pub returns-then-end-s-clause-texts : goal.returns-then-end-s-clause-texts
 returns-then-end-s-clause-texts c = not-tabled text_tag _ (survey-cut c.loop-f.invariant c.in-None.ensures.steps.0 c.if-end-s.true)
@@ -50,11 +50,11 @@ returns-then-end-s-clause-blocks c = not-tabled block_tag _ (survey-cut c.loop-f
 
 pub returns-clause-layout : goal.returns-clause-layout
 returns-clause-layout c =
-    laid c.args.s.now c.loop-f.sections (survey-accepted c.loop-f.invariant c.in-None.ensures.steps.0 c.requires c.if-end-s.false) (survey-section c.loop-f.invariant c.in-None.ensures.steps.0 c.requires c.if-end-s.false)
+    laid c.args.self.now.bytes.now c.loop-f.sections (survey-accepted c.loop-f.invariant c.in-None.ensures.steps.0 c.args.self.now.size c.if-end-s.false) (survey-section c.loop-f.invariant c.in-None.ensures.steps.0 c.args.self.now.size c.if-end-s.false)
     c.read_padded.ensures c.int_of_bits.ensures (search rules) c.read_padded-2.ensures c.int_of_bits-2.ensures (search rules)
 
 pub returns-clause-texts : goal.returns-clause-texts
-returns-clause-texts c = survey-texts c.loop-f.invariant c.in-None.ensures.steps.0 c.requires c.if-end-s.false
+returns-clause-texts c = survey-texts c.loop-f.invariant c.in-None.ensures.steps.0 c.args.self.now.size c.if-end-s.false
 
 pub returns-clause-blocks : goal.returns-clause-blocks
-returns-clause-blocks c = survey-blocks c.loop-f.invariant c.in-None.ensures.steps.0 c.requires c.if-end-s.false
+returns-clause-blocks c = survey-blocks c.loop-f.invariant c.in-None.ensures.steps.0 c.args.self.now.size c.if-end-s.false

@@ -15,7 +15,7 @@ use Rattle.oce_model.specs.Format.{text_tag}
 use Rattle.numbers.specs.Bytes.{byte}
 use Rattle.oce_model.specs.Image.{field_end, fields, fields_from, of_tag, ord_of}
 use Rattle.oce_model.specs.declared.Field.{Field}
-use Rattle.image_accept.proofs.text_count.Goals as goal
+use Rattle.image_accept.proofs.GoodSize.text_count.Goals as goal
 
 is-kept : (p : Field → Bool) (l : List Field) → filter p l ≡ keep p l
 unfolding keep
@@ -37,12 +37,12 @@ unfolding fields
 few-fields s = few-from (length s) s 0 0 0
 
 pub count-requires-clause-fits : goal.count-requires-clause-fits
-count-requires-clause-fits c = inl (omega (arith, ap length c.filter.ensures.source, ap length c.of.ensures, few-fields c.args.s.now, c.requires))
+count-requires-clause-fits c = inl (omega (arith, ap length c.filter.ensures.source, ap length c.of.ensures, few-fields c.args.self.now.bytes.now, c.args.self.now.size.1))
 
 pub returns : goal.returns
 unfolding of_tag
 returns c =
     let p : Field → Bool = λ f. eqb f.tag text_tag in
     count_from_yields_List c.filter.result c.count.result c.count.ensures.ran
-    (YieldsList-from_filter _ p (YieldsList-at c.filter.ensures.source (YieldsList-from_first (λ x. x) (λ rest. rest) (fields c.args.s.now) c.of.ensures)) c.filter.ensures.closure (λ x r q k. search (rules, tests)))
-    ∙ ap length (is-kept p (fields c.args.s.now))
+    (YieldsList-from_filter _ p (YieldsList-at c.filter.ensures.source (YieldsList-from_first (λ x. x) (λ rest. rest) (fields c.args.self.now.bytes.now) c.of.ensures)) c.filter.ensures.closure (λ x r q k. search (rules, tests)))
+    ∙ ap length (is-kept p (fields c.args.self.now.bytes.now))
