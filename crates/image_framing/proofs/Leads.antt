@@ -1,12 +1,13 @@
 -- Laws of what stands at an offset, with the code's own tests.
 use Prim.Native.Nat.{ℕ, ◌+◌, ◌-◌, ◌<◌, ◌≤◌}
 use native.Mathlib.Omega.{arith}
-use mathlib.Core.Path.{◌≡◌, refl, ap}
+use mathlib.Core.Path.{◌≡◌, refl, sym, ap}
 use mathlib.Core.Bool.{Bool, true, false, cond}
 use mathlib.Core.List.{List}
-use lib.Dec.{leb}
+use lib.Dec.{leb, ltb}
 use lib.ListN.{length}
-use borrow.Author.Tests.{le-leb, lt-leb, leb-true}
+use borrow.Author.Tests.{le-leb, lt-leb, le-ltb, leb-true, leb-false}
+use Rattle.std.specs.Bool.{then_some}
 use Rattle.std.specs.Prelude.{None, Some}
 use Rattle.numbers.proofs.Bytes.{byte_past, le-past}
 use Rattle.oce_model.specs.Format.{leading_bytes, field_length_at}
@@ -21,20 +22,25 @@ module _ (s : List ℕ) (at : ℕ) where
       let behind : length s ≤ at + field_length_at = omega arith in
       rw (← (byte_past s at h), ← (le-past 2 s (at + field_length_at) behind)) refl
 
-  pub whole-past : length s ≤ at → None ≡ whole_at s at
-  unfolding field_end
-  whole-past h = let past : length s < field_end s at = omega arith in rw (lt-leb _ _ past) refl
-
   module _ {l : Leading} (e : l ≡ leading_at s at) where
-    -- a field that runs past the end
-    pub whole-cut : length s - at < leading_bytes + l.len → None ≡ whole_at s at
+    pub whole-past : {b : Bool} → length s ≤ at → b ≡ ltb at (length s) → then_some b l ≡ whole_at s at
     unfolding field_end
-    whole-cut c = let past : length s < field_end s at = omega (arith, ap (λ (l : Leading). l.len) e) in rw (lt-leb _ _ past) refl
+    whole-past h q = let past : length s < field_end s at = omega arith in rw (q, le-ltb at (length s) h, lt-leb _ _ past) refl
 
-    -- a whole one
-    pub whole-fits : at < length s → leading_bytes + l.len ≤ length s - at → Some l ≡ whole_at s at
+    -- a whole one, or one that runs past the end
+    pub whole-there : {b : Bool} → at < length s → b ≡ leb (leading_bytes + l.len) (length s - at) → then_some b l ≡ whole_at s at
     unfolding field_end
-    whole-fits h c = let fits : field_end s at ≤ length s = omega (arith, ap (λ (l : Leading). l.len) e) in rw (le-leb _ _ fits) (ap Some e)
+    whole-there {b} h q = arm b (sym q)
+      where
+        arm : (b : Bool) → leb (leading_bytes + l.len) (length s - at) ≡ b → then_some b l ≡ whole_at s at
+        arm true r =
+            let k : leading_bytes + l.len ≤ length s - at = leb-true _ _ r in
+            let fits : field_end s at ≤ length s = omega (arith, ap (λ (l : Leading). l.len) e) in
+            rw (le-leb _ _ fits) (ap Some e)
+        arm false r =
+            let k : length s - at < leading_bytes + l.len = leb-false _ _ r in
+            let past : length s < field_end s at = omega (arith, ap (λ (l : Leading). l.len) e) in
+            rw (lt-leb _ _ past) refl
 
 -- what is whole
 pub whole-is : (s : List ℕ) (at : ℕ) {l : Leading} → Some l ≡ whole_at s at → (field_end s at ≤ length s) × (l ≡ leading_at s at)

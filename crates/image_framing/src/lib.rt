@@ -2,7 +2,7 @@
 // fault under a refusal.
 #![tactic(auto)]
 
-ghost use Rattle.std.specs.Prelude.{◌≡◌, ◌+◌, ◌<◌, ◌≤◌, ltb, length, IfSome, Bool};
+ghost use Rattle.std.specs.Prelude.{◌≡◌, ◌+◌, ◌<◌, ◌≤◌, length, IfSome, Bool};
 ghost use Rattle.numbers.specs.Bytes.{byte_range, short_range, long_range};
 ghost use Rattle.oce_model.specs.Format.{leading_bytes};
 ghost use Rattle.oce_model.specs.Image.{ord_of, fields, first};
@@ -13,7 +13,7 @@ mod fields;
 
 pub use fields::Fields;
 use image_faults::bad_tag;
-use numbers::{at16, read16};
+use numbers::at16;
 use oce_model::{FIELD_LENGTH_AT, Field, LEADING_BYTES};
 
 // ---- one field
@@ -40,13 +40,10 @@ pub fn leading_at(s: &[u8], at: usize) -> Leading
     if s.len() <= at {
         return Leading { tag: 0, len: 0 };
     }
-    let tag = usize::from(s[at]);
-    let len = if LEADING_BYTES <= s.len() - at {
-        read16(s, at + FIELD_LENGTH_AT)
-    } else {
-        at16(s, at + FIELD_LENGTH_AT)
-    };
-    Leading { tag, len }
+    Leading {
+        tag: usize::from(s[at]),
+        len: at16(s, at + FIELD_LENGTH_AT),
+    }
 }
 
 // The same, where all of the field lies in the image.
@@ -55,11 +52,7 @@ pub fn whole_at(s: &[u8], at: usize) -> Option<Leading>
     ensures bounds { IfSome result (λ l. (l.tag < byte_range) × (l.len < short_range) × (at + leading_bytes + l.len ≤ length s.now)) }
 {
     let l = leading_at(s, at);
-    if at < s.len() && LEADING_BYTES + l.len <= s.len() - at {
-        Some(l)
-    } else {
-        None
-    }
+    (at < s.len() && LEADING_BYTES + l.len <= s.len() - at).then_some(l)
 }
 
 // The field at an offset where these leading bytes stand, behind n fields with the tag prev.

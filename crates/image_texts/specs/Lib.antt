@@ -1,2 +1,0 @@
--- What a comparison of byte strings has passed over.
-pub mod Passed
