@@ -4,7 +4,7 @@
 
 ghost use Rattle.std.specs.Prelude.{◌≡◌, ◌+◌, ◌<◌, ◌≤◌, length};
 ghost use Rattle.image_contents.specs.Marks.{not_of_integer, bad_marks, stray_part, straying, bad_text_number, bad_type};
-ghost use Rattle.oce_model.specs.Format.{longest_image, connector_attrs, attrs_length};
+ghost use Rattle.oce_model.specs.Format.{longest_image, attrs_length};
 ghost use Rattle.oce_model.specs.Attributes.{attrs_at};
 ghost use Rattle.oce_model.specs.Model.{connector_at};
 ghost use Rattle.oce_model.specs.Refusals.{attrs_offset, bad_head, bad_connector, bad_attrs, bad_contents, bad_text_numbers, bad_or_none, bad_reference};
@@ -64,7 +64,7 @@ fn stray_part(a: &Attrs, p: usize) -> u64
 }
 
 // One of the numbers stands under a bit that isn't set.
-fn is_straying(a: &Attrs) -> bool
+pub fn is_straying(a: &Attrs) -> bool
     ensures { result ≡ straying a.now }
 {
     let strays = stray_part(a, QUANTITY_BIT)
@@ -88,7 +88,7 @@ fn bad_integer_marks(a: &Attrs) -> bool
 }
 
 // The kind is none, bit 7 stands without bit 6, or the set bits are not the kind's.
-fn bad_marks(a: &Attrs) -> bool
+pub fn bad_marks(a: &Attrs) -> bool
     ensures { result ≡ bad_marks a.now }
 {
     (a.kind > Kind::Enum as u8)

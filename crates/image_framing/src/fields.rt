@@ -1,5 +1,5 @@
 // The fields of an image as an iterator.
-ghost use Rattle.std.specs.Prelude.{◌≡◌, ◌≤◌};
+ghost use Rattle.std.specs.Prelude.{◌≡◌};
 ghost use Rattle.std.specs.Iterator.{YieldsFirst, item_count};
 ghost use Rattle.oce_model.specs.Image.{fields};
 
@@ -7,14 +7,14 @@ use crate::{end_of, field_of, whole_at};
 use oce_model::Field;
 use std::marker::Model;
 
-// The fields that an image has left, up to the first that runs past its end: those from an offset on, behind n
+// The fields that an image has left, up to the first that runs past its end: those from an offset on, behind so many
 // fields with the tag prev.
 #[derive(Drop)]
 pub struct Fields<'a> {
     bytes: &'a [u8],
     at: usize,
     prev: usize,
-    n: usize,
+    before: usize,
 }
 
 impl<'a> Model for Fields<'a> {
@@ -24,9 +24,9 @@ impl<'a> Model for Fields<'a> {
 
     ghost Value = { List Field };
 
-    ghost view = { λ it. rest_at it.bytes.now it.at it.prev it.n };
+    ghost view = { λ it. rest_at it.bytes.now it.at it.prev it.before };
 
-    ghost invariant = { λ it. it.n ≤ it.at };
+    ghost invariant = { λ it. it.before ≤ it.at };
 }
 
 impl<'a> Fields<'a> {
@@ -38,7 +38,7 @@ impl<'a> Fields<'a> {
             bytes: s,
             at: 0,
             prev: 0,
-            n: 0,
+            before: 0,
         }
     }
 }
@@ -52,10 +52,10 @@ impl Iterator for Fields<'_> {
 
     fn next(&mut self) -> Option<Field> {
         let l = whole_at(self.bytes, self.at)?;
-        let f = field_of(l, self.at, self.prev, self.n);
+        let f = field_of(l, self.at, self.prev, self.before);
         self.at = end_of(f);
         self.prev = f.tag;
-        self.n = f.ord + 1;
+        self.before = f.ord + 1;
         Some(f)
     }
 }

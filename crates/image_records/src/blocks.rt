@@ -33,6 +33,7 @@ impl<'a> Model for Ids<'a> {
 }
 
 impl Ids<'_> {
+    // How many there are.
     pub fn count(&self) -> usize
         ensures { (result ≡ length self.now) × (result ≤ most_ports) }
     {

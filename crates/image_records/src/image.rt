@@ -74,38 +74,44 @@ impl<'a, 't> Image<'a, 't> {
         &self.layout
     }
 
-    // ---- how many records there are
+    // ---- how many records there are, of each kind
 
+    // Blocks.
     pub fn block_count(&self) -> usize
         ensures { (result ≡ block_count (model_of self.now)) × (result ≤ most_blocks) }
     {
         self.layout.blocks.count
     }
 
+    // Connectors.
     pub fn connector_count(&self) -> usize
         ensures { (result ≡ connector_count (model_of self.now)) × (result ≤ most_connectors) }
     {
         self.layout.connectors.count
     }
 
+    // Connections.
     pub fn connection_count(&self) -> usize
         ensures { (result ≡ connection_count (model_of self.now)) × (result ≤ most_connections) }
     {
         self.layout.connections.count
     }
 
+    // External inputs.
     pub fn external_input_count(&self) -> usize
         ensures { (result ≡ length (model_of self.now).external_inputs) × (result ≤ most_external_inputs) }
     {
         self.layout.externals.count
     }
 
+    // Boundary inputs.
     pub fn boundary_input_count(&self) -> usize
         ensures { (result ≡ boundary_input_count (model_of self.now)) × (result ≤ most_boundary_inputs) }
     {
         self.layout.inputs.count
     }
 
+    // Boundary outputs.
     pub fn boundary_output_count(&self) -> usize
         ensures { (result ≡ boundary_output_count (model_of self.now)) × (result ≤ most_boundary_outputs) }
     {

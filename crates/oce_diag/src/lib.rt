@@ -1,11 +1,10 @@
 // Diagnostics, as oce-diag has them, and how they are put into a report.
 #![tactic(auto)]
 
-ghost use Rattle.std.specs.Prelude.{◌≡◌, [], ◌∷◌, ◌+◌, ◌<◌, ◌≤◌};
-ghost use Rattle.base.specs.Lists.{only};
+ghost use Rattle.std.specs.Prelude.{◌≡◌, [], ◌∷◌, ◌+◌, ◌<◌};
 ghost use Rattle.oce_diag.specs.Diagnostics.{connector_subject, block_subject, error, warning, errors, warnings};
 ghost use Rattle.oce_diag.specs.Encoding.{severity_number, code_number, subject_kind, subject_number, diagnostic_bytes, diagnostic_size};
-ghost use Rattle.oce_diag.specs.Putting.{put_one, total, Put, Countable, Adds};
+ghost use Rattle.oce_diag.specs.Putting.{put_one, total, Countable};
 ghost use Rattle.numbers.specs.Bytes.{word_range, byte, long_range};
 ghost use Rattle.oce_diag.specs.Decoded.{severity_of, code_of, subject_from, decoded_at, diagnostic_at};
 
@@ -90,9 +89,12 @@ pub const DETAIL_PLACE: usize = RULE_PLACE + 1;
 
 pub const SUBJECT_KIND_PLACE: usize = DETAIL_PLACE + 1;
 
-pub const SUBJECT_NUMBER_PLACE: usize = SUBJECT_KIND_PLACE + 4;
+pub const SUBJECT_NUMBER_PLACE: usize = SUBJECT_KIND_PLACE + 1 + ZERO_COUNT;
 
-pub const PLACE_PLACE: usize = SUBJECT_NUMBER_PLACE + 4;
+pub const PLACE_PLACE: usize = SUBJECT_NUMBER_PLACE + u32::SIZE;
+
+// How many zero bytes stand behind the kind of subject.
+const ZERO_COUNT: usize = 3;
 
 // The numbers of the kinds of subject.
 const NO_SUBJECT: u8 = 0;
@@ -261,7 +263,7 @@ fn count(c: Counted, d: Diagnostic) -> Counted
 fn severity_of(n: u8) -> Severity
     ensures { result ≡ severity_of n }
 {
-    if n == 0 {
+    if n == Severity::Error as u8 {
         return Severity::Error;
     }
     Severity::Warning

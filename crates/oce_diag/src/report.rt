@@ -1,4 +1,4 @@
-// A report that is written: the caller's bytes, and what was counted so far.
+// Reports, as they are written.
 
 ghost use Rattle.std.specs.Prelude.{[], ◌∷◌};
 ghost use Rattle.base.specs.Lists.{only};
@@ -6,6 +6,7 @@ ghost use Rattle.oce_diag.specs.Reporting.{Room, Puts};
 
 use super::{Counted, Diagnostic, count, write};
 
+// The caller's bytes, and what was counted so far.
 pub struct Report<'a> {
     pub bytes: &'a mut [u8],
     pub counted: Counted,

@@ -11,7 +11,7 @@ use Rattle.base.proofs.Options.{some-ne-none}
 use mathlib.Core.Logic.{◌⊎◌, inl, inr}
 use lib.ListN.{length, get_or}
 use lib.Dec.{leb, eqb}
-use borrow.Author.Tests.{leb-true, lt-leb, eqb-true, eq-eqb}
+use borrow.Author.Tests.{leb-true, eqb-true, eq-eqb}
 use Rattle.base.specs.Lists.{keep}
 use Rattle.numbers.specs.Bytes.{byte}
 use Rattle.oce_model.specs.Image.{field_at, field_end, fields, fields_from, first, of_tag, ord_of, stop, stop_from}
@@ -136,17 +136,6 @@ walk_step s at prev rest w h = go w.fuel w.enough w.ends w.is
     go : (k : ℕ) → length s ≤ at + k → stop_from k s at ≡ length s → rest ≡ fields_from k s at prev w.ord → Step s at prev rest
     go zero l n i = absurd (omega arith)
     go (suc k) l n i = arm k (leb (field_end s at) (length s)) refl l n i
-
-past : (s : List ℕ) (at : ℕ) → length s ≤ at → leb (field_end s at) (length s) ≡ false
-past s at h = lt-leb (field_end s at) (length s) (omega (arith, field_end-past s at))
-
-pub walk_end : (s : List ℕ) (at prev : ℕ) (rest : List Field) → Walk s at prev rest → length s ≤ at → rest ≡ []
-unfolding fields_from
-walk_end s at prev rest w h = w.is ∙ go w.fuel
-  where
-    go : (k : ℕ) → fields_from k s at prev w.ord ≡ []
-    go zero = refl
-    go (suc k) = rw (past s at h)
 
 -- ---- the first field that passes a test
 

@@ -6,7 +6,7 @@ ghost use Rattle.numbers.specs.Bytes.{bit};
 ghost use Rattle.oce_model.specs.Attributes.{num, real_attrs, int_attrs};
 ghost use Rattle.oce_model.specs.Model.{inwards, kind_number};
 
-use numbers::{int_of_bits, is_set, real_of_bits};
+use numbers::{LittleEndian, int_of_bits, is_set, real_of_bits};
 
 // A field of an image: the offset of its tag, the tag, the length of its contents, the tag of the field
 // before (0 for the first), and how many fields with its tag stand right before it. Where tags don't
@@ -27,10 +27,11 @@ pub struct Refusal {
     pub offset: u32,
 }
 
-// The Rust's `BlockId` and `ConnectorId`: numbers of blocks and of connectors, kept apart.
+// The Rust's `BlockId`: a block's number.
 #[derive(Clone, Copy)]
 pub struct BlockId(pub u32);
 
+// The Rust's `ConnectorId`: a connector's number, another type than a block's.
 #[derive(Clone, Copy)]
 pub struct ConnectorId(pub u32);
 
@@ -72,6 +73,9 @@ pub enum Kind {
 
 // How many numbers a set of attributes has: one for each of the bits 0 to 5.
 pub const NUMBER_COUNT: usize = 6;
+
+// How many bits the byte of set bits has.
+pub const MARK_COUNT: usize = 8;
 
 // A set of attributes as an image has it, the Rust's `Attrs`: its kind, the byte of set bits, and the
 // numbers of the bits 0 to 5, where the first three are text numbers and the others 64 bit patterns.
@@ -130,7 +134,7 @@ impl Attrs {
 
     // Bit p is set.
     pub fn is_marked(&self, p: usize) -> bool
-        requires { p < 8 }
+        requires { p < MARK_COUNT }
         ensures { result ≡ bit self.now.marks p }
     {
         is_set(usize::from(self.marks), p)
@@ -200,6 +204,8 @@ pub const HIGHEST_TAG: usize = BOUNDARY_OUTPUT_TAG;
 pub const TAG_COUNT: usize = HIGHEST_TAG + 1;
 
 // the most records of each tag
+pub const MOST_HEADS: usize = 1;
+
 pub const MOST_TEXTS: usize = 1024;
 
 pub const MOST_BLOCKS: usize = 256;
@@ -278,42 +284,42 @@ pub const BOUNDARY_OUTPUT_SIZE: usize = LEADING_BYTES + BOUNDARY_OUTPUT_LENGTH;
 // the head
 pub const HEAD_VERSION_AT: usize = LEADING_BYTES;
 
-pub const HEAD_ZEROS_AT: usize = HEAD_VERSION_AT + 2;
+pub const HEAD_ZEROS_AT: usize = HEAD_VERSION_AT + u16::SIZE;
 
-pub const HEAD_MIN_AT: usize = HEAD_ZEROS_AT + 2;
+pub const HEAD_MIN_AT: usize = HEAD_ZEROS_AT + u16::SIZE;
 
-pub const HEAD_MAX_AT: usize = HEAD_MIN_AT + 8;
+pub const HEAD_MAX_AT: usize = HEAD_MIN_AT + u64::SIZE;
 
 // a block; the ids of its ports stand behind
 pub const BLOCK_ID_AT: usize = LEADING_BYTES;
 
-pub const BLOCK_INSTANCE_AT: usize = BLOCK_ID_AT + 4;
+pub const BLOCK_INSTANCE_AT: usize = BLOCK_ID_AT + u32::SIZE;
 
-pub const BLOCK_INPUTS_AT: usize = BLOCK_INSTANCE_AT + 2;
+pub const BLOCK_INPUTS_AT: usize = BLOCK_INSTANCE_AT + u16::SIZE;
 
-pub const BLOCK_OUTPUTS_AT: usize = BLOCK_INPUTS_AT + 2;
+pub const BLOCK_OUTPUTS_AT: usize = BLOCK_INPUTS_AT + u16::SIZE;
 
-pub const BLOCK_PORTS: usize = BLOCK_OUTPUTS_AT + 2;
+pub const BLOCK_PORTS: usize = BLOCK_OUTPUTS_AT + u16::SIZE;
 
 // a connector
 pub const CONNECTOR_ID_AT: usize = LEADING_BYTES;
 
-pub const CONNECTOR_BLOCK_AT: usize = CONNECTOR_ID_AT + 4;
+pub const CONNECTOR_BLOCK_AT: usize = CONNECTOR_ID_AT + u32::SIZE;
 
-pub const CONNECTOR_DIR_AT: usize = CONNECTOR_BLOCK_AT + 4;
+pub const CONNECTOR_DIR_AT: usize = CONNECTOR_BLOCK_AT + u32::SIZE;
 
 pub const CONNECTOR_TYPE_AT: usize = CONNECTOR_DIR_AT + 1;
 
 pub const CONNECTOR_CLASS_AT: usize = CONNECTOR_TYPE_AT + 1;
 
-pub const CONNECTOR_IRI_AT: usize = CONNECTOR_CLASS_AT + 4;
+pub const CONNECTOR_IRI_AT: usize = CONNECTOR_CLASS_AT + u32::SIZE;
 
-pub const CONNECTOR_ATTRS: usize = CONNECTOR_IRI_AT + 2;
+pub const CONNECTOR_ATTRS: usize = CONNECTOR_IRI_AT + u16::SIZE;
 
 // a connection
 pub const CONNECTION_FROM_AT: usize = LEADING_BYTES;
 
-pub const CONNECTION_TO_AT: usize = CONNECTION_FROM_AT + 4;
+pub const CONNECTION_TO_AT: usize = CONNECTION_FROM_AT + u32::SIZE;
 
 // an external input
 pub const EXTERNAL_INPUT_ID_AT: usize = LEADING_BYTES;
@@ -321,29 +327,29 @@ pub const EXTERNAL_INPUT_ID_AT: usize = LEADING_BYTES;
 // a boundary input
 pub const BOUNDARY_INPUT_IRI_AT: usize = LEADING_BYTES;
 
-pub const BOUNDARY_INPUT_ATTRS: usize = BOUNDARY_INPUT_IRI_AT + 2;
+pub const BOUNDARY_INPUT_ATTRS: usize = BOUNDARY_INPUT_IRI_AT + u16::SIZE;
 
 // a boundary output
 pub const BOUNDARY_OUTPUT_IRI_AT: usize = LEADING_BYTES;
 
-pub const BOUNDARY_OUTPUT_SOURCE_AT: usize = BOUNDARY_OUTPUT_IRI_AT + 2;
+pub const BOUNDARY_OUTPUT_SOURCE_AT: usize = BOUNDARY_OUTPUT_IRI_AT + u16::SIZE;
 
-pub const BOUNDARY_OUTPUT_ATTRS: usize = BOUNDARY_OUTPUT_SOURCE_AT + 4;
+pub const BOUNDARY_OUTPUT_ATTRS: usize = BOUNDARY_OUTPUT_SOURCE_AT + u32::SIZE;
 
 // attributes, from their own start
 pub const ATTRS_MARKS_AT: usize = 1;
 
 pub const ATTRS_QUANTITY_AT: usize = ATTRS_MARKS_AT + 1;
 
-pub const ATTRS_UNIT_AT: usize = ATTRS_QUANTITY_AT + 2;
+pub const ATTRS_UNIT_AT: usize = ATTRS_QUANTITY_AT + u16::SIZE;
 
-pub const ATTRS_DISPLAY_UNIT_AT: usize = ATTRS_UNIT_AT + 2;
+pub const ATTRS_DISPLAY_UNIT_AT: usize = ATTRS_UNIT_AT + u16::SIZE;
 
-pub const ATTRS_MIN_AT: usize = ATTRS_DISPLAY_UNIT_AT + 2;
+pub const ATTRS_MIN_AT: usize = ATTRS_DISPLAY_UNIT_AT + u16::SIZE;
 
-pub const ATTRS_MAX_AT: usize = ATTRS_MIN_AT + 8;
+pub const ATTRS_MAX_AT: usize = ATTRS_MIN_AT + u64::SIZE;
 
-pub const ATTRS_NOMINAL_AT: usize = ATTRS_MAX_AT + 8;
+pub const ATTRS_NOMINAL_AT: usize = ATTRS_MAX_AT + u64::SIZE;
 
 // and how many bytes they have
-pub const ATTRS_LENGTH: usize = ATTRS_NOMINAL_AT + 8;
+pub const ATTRS_LENGTH: usize = ATTRS_NOMINAL_AT + u64::SIZE;

@@ -4,9 +4,9 @@ use borrow.Author.Tests.{eq-eqb, ne_eqb}
 use Rattle.oce_diag.specs.Decoded.{severity_of}
 use Rattle.oce_diag.proofs.severity_of.Goals as goal
 
-pub returns-then-n-eq0 : goal.returns-then-n-eq0
+pub returns-then-n : goal.returns-then-n
 unfolding severity_of
-returns-then-n-eq0 c = search (eq-eqb, rules)
+returns-then-n c = search (eq-eqb, rules)
 
 pub returns : goal.returns
 unfolding severity_of
