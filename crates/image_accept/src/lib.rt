@@ -31,7 +31,7 @@ pub struct Section {
 }
 
 impl Section {
-    // Where record i stands, by the size of the section's records.
+    // Where record i stands, by the size that each has.
     pub fn record_at(self, size: usize, i: usize) -> usize
         requires { self.start + size * i ≤ longest_image }
         ensures { (result ≡ self.start + size * i) × (result ≤ longest_image) }
@@ -40,8 +40,7 @@ impl Section {
     }
 }
 
-// The layout of an accepted image: the records of each tag, and the head's Integer defaults. A record of
-// a fixed size stands at its section's start plus its number times the size.
+// The layout of an accepted image: the records of each tag, and the head's Integer defaults.
 #[derive(Clone, Copy)]
 pub struct Layout {
     pub texts: Section,
