@@ -5,8 +5,7 @@ use native.Mathlib.Omega.{arith}
 use mathlib.Core.Path.{◌≡◌, sym, ap, ◌∙◌}
 use mathlib.Core.List.{List}
 use lib.Dec.{eqb}
-use lib.ListN.{length, get_or, take, replicate, length-replicate, get_or-eq_default}
-use Rattle.std.proofs.Common.{length-take}
+use lib.ListN.{length, get_or, replicate, length-replicate, get_or-eq_default}
 use Rattle.std.proofs.lemmas.List.{get_or-replicate}
 use Rattle.oce_model.specs.Format.{most_connections}
 use borrow.Author.Tests.{lt-ltb, le-ltb}
@@ -16,8 +15,8 @@ use Rattle.oce_model.specs.Model.{Model, connection, connector_count, connection
 use Rattle.oce_model.specs.declared.Connection.{Connection}
 use Rattle.structural.specs.Degrees.{degree}
 use Rattle.image_records.specs.Records.{connection_read}
-use Rattle.structural_degrees.specs.Counted.{portion, absent, counted, Spare}
-use Rattle.structural_degrees.proofs.Counting.{counted-length, counted-at, counted-take}
+use Rattle.structural_degrees.specs.Counted.{absent, counted, Spare}
+use Rattle.structural_degrees.proofs.Counting.{counted-length, counted-at}
 use Rattle.structural_degrees.specs.Columns.{Reads, Counts, Degrees}
 
 pub counts_start : {m : Model} {ds : List ℕ} (n : ℕ) → ds ≡ replicate n 0 → Counts m 0 ds
@@ -33,26 +32,21 @@ module _ {m : Model} {k : ℕ} {ds : List ℕ} (h : Counts m k ds) where
       arm (yes l) = let e = h.each i l in let f = tally-le k (λ j. eqb (connection m j).to i) in omega arith
       arm (no l) = let e : get_or ds i 0 ≡ 0 = get_or-eq_default ds 0 (omega arith) in omega arith
 
-  module _ {n : ℕ} {list : List Connection} {ds' : List ℕ} (r : Reads m k n list) (q : n ≤ portion) (e : ds' ≡ counted ds (take n list) (length (take n list))) where
-    part-counted : ds' ≡ counted ds list n
-    part-counted =
-        let l : length (take n list) ≡ n = omega (arith, length-take n list, r.long) in
-        e ∙ ap (counted ds (take n list)) l ∙ counted-take ds list n
-
-    pub counts-length : length ds' ≡ length ds
-    counts-length = ap length part-counted ∙ counted-length ds list n
+  module _ {list : List Connection} {ds' : List ℕ} (r : Reads m k (length list) list) (e : ds' ≡ counted ds list (length list)) where
+    counts-length : length ds' ≡ length ds
+    counts-length = ap length e ∙ counted-length ds list (length list)
 
     -- a portion after the first k
-    pub counts-portion : {t : ℕ} → t ≡ k + n → Counts m t ds'
+    pub counts-portion : {t : ℕ} → t ≡ k + length list → Counts m t ds' × (length ds' ≡ length ds)
     unfolding connection_read
-    counts-portion z = rw z (record { each = go })
+    counts-portion z = (rw z (record { each = go }), counts-length)
       where
-        go : (i : ℕ) → i < length ds' → get_or ds' i 0 ≡ tally (k + n) (λ j. eqb (connection m j).to i)
+        go : (i : ℕ) → i < length ds' → get_or ds' i 0 ≡ tally (k + length list) (λ j. eqb (connection m j).to i)
         go i l =
             let inside : i < length ds = (let s = counts-length in omega arith) in
-            ap (λ xs. get_or xs i 0) part-counted ∙ counted-at ds list n i inside
-            ∙ rw (h.each i inside, tally-same n (λ j. eqb (get_or list j absent).to.0 i) (λ j. eqb (connection m (k + j)).to i) (λ j q. ap (λ (c : Connection). eqb c.to.0 i) (r.each j q)))
-            (sym (tally-add k n (λ j. eqb (connection m j).to i)))
+            ap (λ xs. get_or xs i 0) e ∙ counted-at ds list (length list) i inside
+            ∙ rw (h.each i inside, tally-same (length list) (λ j. eqb (get_or list j absent).to.0 i) (λ j. eqb (connection m (k + j)).to i) (λ j q. ap (λ (c : Connection). eqb c.to.0 i) (r.each j q)))
+            (sym (tally-add k (length list) (λ j. eqb (connection m j).to i)))
 
   -- each place can grow by n more
   pub counts-spare : {n : ℕ} → k + n ≤ most_connections → Spare ds n
@@ -68,7 +62,11 @@ module _ {m : Model} {k : ℕ} {ds : List ℕ} (h : Counts m k ds) where
           let inside : i < length ds = omega arith in
           h.each i inside ∙ rw (lt-ltb i (connector_count m) b, p)
 
--- an id that is no connector's number
-pub degree-none : (m : Model) (id : ℕ) → connector_count m ≤ id → 0 ≡ degree m id
+-- what stands at an id: none where that is no connector's number
+pub degree-at : {m : Model} {ds : List ℕ} → Degrees m ds → length ds ≡ connector_count m → (id : ℕ) → get_or ds id 0 ≡ degree m id
 unfolding degree
-degree-none m id l = rw (le-ltb id (connector_count m) l)
+degree-at {m} {ds} d e id = arm (dec_lt id (connector_count m))
+  where
+    arm : Dec (id < connector_count m) → get_or ds id 0 ≡ degree m id
+    arm (yes l) = d.each id l
+    arm (no n) = get_or-eq_default ds 0 (omega arith) ∙ rw (le-ltb id (connector_count m) (omega arith))

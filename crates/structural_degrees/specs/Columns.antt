@@ -5,13 +5,12 @@ use Rattle.oce_model.specs.Model.{Model, connection, connector_count}
 use Rattle.oce_model.specs.declared.Connection.{Connection}
 use Rattle.image_records.specs.Records.{connection_read}
 use Rattle.structural.specs.Degrees.{degree}
-use Rattle.structural_degrees.specs.Counted.{portion, absent}
+use Rattle.structural_degrees.specs.Counted.{absent}
 
 -- ---- degrees
 
--- a portion that holds the k connections from number first on
+-- the list begins with the k connections from number first on
 pub record Reads (m : Model) (first k : ℕ) (list : List Connection) : Type 0 where
-  pub long : length list ≡ portion
   pub each : (j : ℕ) → j < k → get_or list j absent ≡ connection_read (connection m (first + j))
 
 -- at each place, how many of the first k connections lead there

@@ -33,19 +33,14 @@ pub fn add_degrees(connections: &[Connection], degrees: &mut [u32])
 
 // ---- the connections of an image
 
-// The n connections from number `first` on, in their order.
-fn read_connections(image: &Image, first: usize, n: usize) -> [Connection; PORTION]
-    requires { (n ≤ portion) × (first + n ≤ connection_count (model_of image.now)) × (first + n ≤ most_connections) }
-    ensures { Reads (model_of image.now) first n result }
+// The connections from number `first` on, in their order, in each place of the list.
+fn read_connections(image: &Image, first: usize, list: &mut [Connection])
+    requires { (length list.old ≤ portion) × (first + length list.old ≤ connection_count (model_of image.now)) × (first + length list.old ≤ most_connections) }
+    ensures { Reads (model_of image.now) first (length list.new) list.new }
 {
-    let mut list = [Connection {
-        from: ConnectorId(0),
-        to: ConnectorId(0),
-    }; PORTION];
-    for k in 0..n {
-        list[k] = image.connection(first + k);
+    for (k, c) in list.iter_mut().enumerate() {
+        *c = image.connection(first + k);
     }
-    list
 }
 
 // Counts the portion from number `first` on.
@@ -53,9 +48,13 @@ fn count_portion(image: &Image, first: usize, degrees: &mut [u32])
     requires { (first < connection_count (model_of image.now)) × Counts (model_of image.now) first degrees.old }
     ensures { Counts (model_of image.now) (min (first + portion) (connection_count (model_of image.now))) degrees.new × (length degrees.new ≡ length degrees.old) }
 {
-    let n = PORTION.min(image.connection_count() - first);
-    let list = read_connections(image, first, n);
-    add_degrees(&list[..n], degrees);
+    let mut list = [Connection {
+        from: ConnectorId(0),
+        to: ConnectorId(0),
+    }; PORTION];
+    let list = &mut list[..PORTION.min(image.connection_count() - first)];
+    read_connections(image, first, list);
+    add_degrees(list, degrees);
 }
 
 // How many connections lead to each connector.
@@ -114,11 +113,6 @@ impl<'a, 'r, 'i> InDegrees<'a, 'r, 'i> {
     pub fn degree(&self, id: ConnectorId) -> u32
         ensures { result ≡ degree (model_of self.now) id.0 }
     {
-        let at = id.0 as usize;
-        if at < self.degrees.len() {
-            self.degrees[at]
-        } else {
-            0
-        }
+        self.degrees.get(id.0 as usize).copied().unwrap_or(0)
     }
 }

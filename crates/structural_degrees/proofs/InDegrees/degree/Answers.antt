@@ -1,7 +1,7 @@
--- An id of a connector, or another.
-use Rattle.std.proofs.Common.{arith}
-use Rattle.structural_degrees.proofs.Laws.{degree-none}
+-- What stands at an id.
+use Rattle.std.proofs.Common.{rules}
+use Rattle.structural_degrees.proofs.Laws.{degree-at}
 use Rattle.structural_degrees.proofs.InDegrees.degree.Goals as goal
 
-pub returns-else-at-self : goal.returns-else-at-self
-returns-else-at-self c = rw (← c.self.view_is) (degree-none _ c.args.id.0 (omega arith))
+pub returns : goal.returns
+returns c = rw (← c.self.view_is, ← degree-at c.self.invariant.1 c.self.invariant.0 c.args.id.0) (search rules)
