@@ -65,7 +65,8 @@ pub fn member_external(externals: &Externals, x: usize) -> bool
     ensures { result ≡ member_external (model_of externals.now) x }
 {
     let image = externals.image();
-    x < image.connector_count() && externals.contains(image.connector(ConnectorId(x as u32)).id)
+    x < image.connector_count()
+        && externals.contains(image.connector(ConnectorId(x as u32)).id.0 as usize)
 }
 
 // It takes part in the grouping: an In with an iri, or a boundary input.

@@ -1,12 +1,12 @@
 -- The report of a model from the runs that make it.
-use Prim.Native.Nat.{ℕ, zero, suc, ◌+◌, ◌*◌, ◌<◌, ◌≤◌}
+use Prim.Native.Nat.{ℕ, ◌+◌, ◌≤◌}
 use native.Mathlib.Nat.{zero-add, mul-le-mul_left}
 use native.Mathlib.Decide.{ℕ_discrete}
 use native.Mathlib.Omega.{arith}
-use mathlib.Core.Path.{◌≡◌, refl, ap, ◌∙◌}
+use mathlib.Core.Path.{◌≡◌, ap, ◌∙◌}
 use mathlib.Core.List.{List}
 use lib.Dec.{ltb}
-use lib.ListN.{length, get_or, replicate, length-replicate}
+use lib.ListN.{length}
 use borrow.Author.Tests.{lt-ltb, le-ltb}
 use Rattle.oce_model.specs.Format.{most_connectors, most_external_inputs}
 use Rattle.oce_model.specs.Model.{Model, connector_count}
@@ -18,8 +18,6 @@ use Rattle.oce_diag.specs.Reporting.{Puts}
 use Rattle.oce_diag.specs.declared.report.Report.{Report}
 use Rattle.oce_diag.proofs.Diagnostics.{no-errors, some-error}
 use Rattle.oce_diag.proofs.Putting.{put_then}
-use Rattle.base.specs.Lists.{any, keep}
-use Rattle.structural_externals.specs.Columns.{half, Lists}
 use Rattle.unify.specs.Slots.{Slots}
 use Rattle.unify_cluster.specs.Clusters.{most_cluster_faults}
 use Rattle.unify.specs.Unify.{rule6}
@@ -54,34 +52,9 @@ ran m h e p u =
       few = omega (arith, p.few, u.puts.few, ap (λ (c : Counted). c.errors + c.warnings) e, mul-le-mul_left {m = connector_count m} {n = most_connectors} (most_cluster_faults + 1) h);
     }
 
--- ---- what the arrays hold at first
-
-zeros-at : (n i : ℕ) → get_or {A = ℕ} (replicate n 0) i 0 ≡ 0
-zeros-at zero i = refl
-zeros-at (suc n) zero = refl
-zeros-at (suc n) (suc i) = zeros-at n i
-
--- a column of c zeros lists none of at most n external inputs
-nothing-listed : (m : Model) (c n : ℕ) → half c ≡ n → n + n < c → length m.external_inputs ≤ n → Lists m 0 0 (replicate c 0)
-unfolding any keep
-nothing-listed m c n e room few =
-    let long : length {A = ℕ} (replicate c 0) ≡ c = length-replicate c 0 in
-    record {
-      room = rw (long, e) room;
-      serves = rw (long, e) few;
-      each = λ i l. zeros-at c i;
-      few = omega arith;
-      rest = refl;
-    }
-
-pub nothing-in : (m : Model) {c e : ℕ} → Roomy m c e → Lists m 0 0 (replicate e 0)
-nothing-in m {c} {e} h = nothing-listed m e (half e) refl h.halves h.externals
-
 -- columns of two sizes
-pub roomy-few : (m : Model) → connector_count m ≤ most_connectors → connector_count m ≤ few_records → length m.external_inputs ≤ few_records → Roomy m few_records (2 * few_records + 1)
-unfolding half
-roomy-few m f h k = record { few = f; connectors = h; externals = k; halves = omega arith; short = (omega arith, omega arith) }
+pub roomy-few : (m : Model) → connector_count m ≤ most_connectors → connector_count m ≤ few_records → length m.external_inputs ≤ few_records → Roomy m few_records few_records
+roomy-few m f h k = record { few = f; connectors = h; externals = k; short = (omega arith, omega arith) }
 
-pub roomy-most : (m : Model) → connector_count m ≤ most_connectors → length m.external_inputs ≤ most_external_inputs → Roomy m most_connectors (2 * most_external_inputs + 1)
-unfolding half
-roomy-most m h k = record { few = h; connectors = h; externals = k; halves = omega arith; short = (omega arith, omega arith) }
+pub roomy-most : (m : Model) → connector_count m ≤ most_connectors → length m.external_inputs ≤ most_external_inputs → Roomy m most_connectors most_external_inputs
+roomy-most m h k = record { few = h; connectors = h; externals = k; short = (omega arith, omega arith) }

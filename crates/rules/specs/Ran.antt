@@ -1,5 +1,5 @@
 -- What a run over all rules gives.
-use Rattle.std.specs.Prelude.{ℕ, ◌+◌, ◌*◌, ◌<◌, ◌≤◌, ◌≡◌, List, length}
+use Rattle.std.specs.Prelude.{ℕ, ◌+◌, ◌*◌, ◌≤◌, ◌≡◌, List, length}
 use Rattle.oce_model.specs.Format.{most_connectors, most_external_inputs, most_connections, most_boundary_outputs}
 use Rattle.oce_model.specs.Model.{Model, connector_count}
 use Rattle.oce_diag.specs.declared.Counted.{Counted}
@@ -10,7 +10,6 @@ use Rattle.structural_assignment.specs.PerRecord.{most_assignment_faults}
 use Rattle.crossed_records.specs.Most.{most_crossed}
 use Rattle.unify.specs.Unify.{filled_slots}
 use Rattle.unify.specs.Slots.{Slots}
-use Rattle.structural_externals.specs.Columns.{half}
 use Rattle.unify_clusters.specs.Unified.{most_unified_faults}
 use Rattle.outcome.specs.Report.{report}
 
@@ -18,13 +17,12 @@ use Rattle.outcome.specs.Report.{report}
 abbrev pub few_records : ℕ
 few_records = 192
 
--- columns of c entries for in-degrees and of e for external ids have room for a model
+-- columns for c connectors and e external inputs have room for a model
 pub record Roomy (m : Model) (c e : ℕ) : Type 0 where
   pub few : connector_count m ≤ most_connectors
   pub connectors : connector_count m ≤ c
-  pub externals : length m.external_inputs ≤ half e
-  pub halves : half e + half e < e
-  pub short : (c ≤ most_connectors) × (e ≤ 2 * most_external_inputs + 1)
+  pub externals : length m.external_inputs ≤ e
+  pub short : (c ≤ most_connectors) × (e ≤ most_external_inputs)
 
 -- nothing counted
 abbrev pub none : Counted

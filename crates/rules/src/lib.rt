@@ -12,46 +12,40 @@ ghost use Rattle.rules.specs.Ran.{none, Roomy, Ran, most_before6};
 use crossed_records::check_crossed_bounds;
 use image_records::Image;
 use oce_diag::{Counted, Report};
-use oce_model::{Attrs, MOST_CONNECTORS};
+use oce_model::{Attrs, MOST_CONNECTORS, MOST_EXTERNAL_INPUTS};
 use structural_arena_ids::check_arena_ids;
-use structural_assignment::check_single_assignment;
-use structural_degrees::InDegrees;
-use structural_externals::{EXTERNALS_COLUMN, Externals};
+use structural_assignment::{Drivers, check_single_assignment};
 use structural_wiring::{check_boundary_outputs, check_connections};
 use unify_clusters::unify_clusters;
 
 // So many connectors, and so many external inputs, have shorter columns, which are sooner cleared.
 const FEW_RECORDS: usize = 192;
 
-const FEW_EXTERNALS_COLUMN: usize = 2 * FEW_RECORDS + 1;
-
 // The rules before rule 6.
-fn rules_before_6(degrees: &InDegrees, externals: &Externals, report: &mut Report)
-    requires one { externals.now ≡ degrees.now }
-    requires room { Room most_before6 report.old }
-    ensures { Puts most_before6 (rules_before6 (model_of degrees.now)) report.old report.new }
+fn rules_before_6(drivers: &Drivers, report: &mut Report)
+    requires { Room most_before6 report.old }
+    ensures { Puts most_before6 (rules_before6 (model_of drivers.now)) report.old report.new }
 {
-    let image = degrees.image();
+    let image = drivers.image();
     check_arena_ids(image, report);
     check_boundary_outputs(image, report);
-    check_single_assignment(degrees, externals, report);
+    check_single_assignment(drivers, report);
     check_connections(image, report);
-    check_crossed_bounds(externals, report);
+    check_crossed_bounds(drivers.externals(), report);
 }
 
 // All rules, over a report with nothing counted.
-fn all_rules(degrees: &InDegrees, externals: &Externals, slots: &mut [Attrs], report: &mut Report)
-    requires one { externals.now ≡ degrees.now }
-    requires slots { length slots.old ≡ slot_count (model_of degrees.now) }
-    requires start { (report.old.counted ≡ none) × (connector_count (model_of degrees.now) ≤ most_connectors) }
-    ensures ran { Ran (model_of degrees.now) slots.new report.old.bytes.now report.new.bytes.now report.new.counted }
+fn all_rules(drivers: &Drivers, slots: &mut [Attrs], report: &mut Report)
+    requires slots { length slots.old ≡ slot_count (model_of drivers.now) }
+    requires start { (report.old.counted ≡ none) × (connector_count (model_of drivers.now) ≤ most_connectors) }
+    ensures ran { Ran (model_of drivers.now) slots.new report.old.bytes.now report.new.bytes.now report.new.counted }
     ensures same { report.new.bytes.ghost_name ≡ report.old.bytes.ghost_name }
 {
-    rules_before_6(degrees, externals, report);
-    unify_clusters(degrees, slots, report);
+    rules_before_6(drivers, report);
+    unify_clusters(drivers.degrees(), slots, report);
 }
 
-// The same over columns of in-degrees and of external ids with so many entries.
+// The same over columns for so many connectors and so many external inputs.
 fn run_in<const CONNECTORS: usize, const EXTERNALS: usize>(
     image: &Image,
     slots: &mut [Attrs],
@@ -62,9 +56,9 @@ fn run_in<const CONNECTORS: usize, const EXTERNALS: usize>(
     ensures { Ran (model_of image.now) slots.new report.old report.new result }
 {
     let mut degrees = [0u32; CONNECTORS];
-    let mut externals = [0u32; EXTERNALS];
-    let degrees = InDegrees::count(image, &mut degrees);
-    let externals = Externals::list(image, &mut externals);
+    let mut marks = [false; EXTERNALS];
+    let mut others = [0u32; EXTERNALS];
+    let drivers = Drivers::of(image, &mut degrees, &mut marks, &mut others);
     let mut report = Report {
         bytes: report,
         counted: Counted {
@@ -72,7 +66,7 @@ fn run_in<const CONNECTORS: usize, const EXTERNALS: usize>(
             warnings: 0,
         },
     };
-    all_rules(&degrees, &externals, slots, &mut report);
+    all_rules(&drivers, slots, &mut report);
     let Report { bytes: _, counted } = report;
     counted
 }
@@ -85,8 +79,8 @@ pub fn run(image: &Image, slots: &mut [Attrs], report: &mut [u8]) -> Counted
     let connectors = image.connector_count();
     let externals = image.external_input_count();
     if connectors <= FEW_RECORDS && externals <= FEW_RECORDS {
-        run_in::<FEW_RECORDS, FEW_EXTERNALS_COLUMN>(image, slots, report)
+        run_in::<FEW_RECORDS, FEW_RECORDS>(image, slots, report)
     } else {
-        run_in::<MOST_CONNECTORS, EXTERNALS_COLUMN>(image, slots, report)
+        run_in::<MOST_CONNECTORS, MOST_EXTERNAL_INPUTS>(image, slots, report)
     }
 }

@@ -5,7 +5,7 @@ use native.Mathlib.Omega.{arith}
 use mathlib.Core.Path.{◌≡◌, sym, ap, ◌∙◌}
 use mathlib.Core.Bool.{Bool, true, false, not}
 use lib.Dec.{ltb, eqb}
-use borrow.Author.Tests.{le-ltb, eq-eqb, ne_eqb}
+use borrow.Author.Tests.{eq-eqb, ne_eqb}
 use Rattle.base.specs.Lists.{only}
 use Rattle.oce_model.specs.Format.{most_connectors}
 use Rattle.oce_model.specs.Model.{Model, inwards, is_in, connector, connector_count}
@@ -22,12 +22,6 @@ use Rattle.structural.specs.Degrees.{degree, external}
 use Rattle.structural.specs.Structural.{assignment_faults, rule3}
 use Rattle.image_records.specs.Records.{connector_read}
 use Rattle.structural_assignment.specs.PerRecord.{undriven, degree_faults, most_assignment_faults}
-
--- ---- a degree by an id
-
-pub degree-none : (m : Model) {id : ℕ} → connector_count m ≤ id → 0 ≡ degree m id
-unfolding degree
-degree-none m {id} l = rw (le-ltb id (connector_count m) l)
 
 -- ---- an input
 

@@ -1,75 +1,34 @@
-// The external inputs in a column, so that an id is looked up in few steps: small ids each have an entry,
-// the others stand sorted behind these. A column of 2 * h + 1 entries serves h external inputs: an entry for
-// each id below h, room for h others, and how many others there are.
+// The external inputs of an image where an id is looked up in few steps: each small id has a mark, the others
+// stand in ascending order.
 #![tactic(auto)]
 
-ghost use Rattle.std.specs.Prelude.{◌≡◌, ◌+◌, ◌<◌, ◌≤◌, length, get_or};
-ghost use Rattle.oce_model.specs.Format.{most_external_inputs};
+ghost use Rattle.std.specs.Prelude.{◌≡◌, ◌≤◌, false, length, replicate};
 ghost use Rattle.oce_model.specs.Model.{model_of};
 ghost use Rattle.structural.specs.Degrees.{external};
-ghost use Rattle.structural_externals.specs.Columns.{half, listed_ids, others_count, Lists, OthersSorted, Listed};
+ghost use Rattle.structural_externals.specs.Columns.{Lists, Split};
 
 use image_records::Image;
-use oce_model::{ConnectorId, MOST_EXTERNAL_INPUTS};
 use sorting::{is_among, sort};
 use std::marker::Model;
 
-// The entries of a column that serves every image.
-pub const EXTERNALS_COLUMN: usize = 2 * MOST_EXTERNAL_INPUTS + 1;
-
-// How many ids have an entry of their own in a column of n entries.
-#[tactic(auto, unfolding(crate::specs::Columns::half))]
-fn half(n: usize) -> usize
-    ensures { result ≡ half n }
-{
-    n / 2
-}
-
-// External input k marks its id's entry, or is put behind the n others. How many others there are then.
-fn list_one(image: &Image, k: usize, n: usize, externals: &mut [u32]) -> usize
-    requires { (k < length (model_of image.now).external_inputs) × Lists (model_of image.now) k n externals.old × (n < listed_ids externals.old) }
-    ensures { Lists (model_of image.now) (k + 1) result externals.new }
-{
-    let h = half(externals.len());
-    let id = image.external_input(k).0;
-    if (id as usize) < h {
-        externals[id as usize] = 1;
-        n
-    } else {
-        externals[h + n] = id;
-        n + 1
-    }
-}
-
-// Sorts the n others, and notes how many they are.
-fn sort_others(externals: &mut [u32], n: usize)
-    requires { (n ≤ most_external_inputs) × (n ≤ listed_ids externals.old) × (others_count externals.old < length externals.old) }
-    ensures { OthersSorted n externals.old externals.new }
-{
-    let h = half(externals.len());
-    sort(&mut externals[h..h + n]);
-    externals[h + h] = n as u32;
-}
-
-// The external inputs of an image in a column, which the caller has cleared.
-fn list_externals(image: &Image, externals: &mut [u32])
-    requires { Lists (model_of image.now) 0 0 externals.old }
-    ensures { Listed (model_of image.now) externals.new }
+// Marks each external input whose id has a mark, and puts the others in ascending order to the front of `others`;
+// these.
+fn list_externals<'a>(image: &Image, marks: &mut [bool], others: &'a mut [u32]) -> &'a [u32]
+    requires { Lists (model_of image.now) 0 0 marks.old others.old }
+    ensures { Split (model_of image.now) marks.new result.now }
 {
     let mut n = 0;
     for k in 0..image.external_input_count() {
-        n = list_one(image, k, n, externals);
+        let id = image.external_input(k).0;
+        if (id as usize) < marks.len() {
+            marks[id as usize] = true;
+        } else {
+            others[n] = id;
+            n += 1;
+        }
     }
-    sort_others(externals, n);
-}
-
-// How many others a column has.
-fn others(externals: &[u32]) -> usize
-    requires { others_count externals.now < length externals.now }
-    ensures { result ≡ get_or externals.now (others_count externals.now) 0 }
-{
-    let h = half(externals.len());
-    externals[h + h] as usize
+    sort(&mut others[..n]);
+    &others[..n]
 }
 
 // ---- an image with its external inputs
@@ -78,7 +37,7 @@ fn others(externals: &[u32]) -> usize
 #[derive(Drop)]
 pub struct Externals<'a, 'r, 'i> {
     image: &'r Image<'i, 'i>,
-    marks: &'a [u32],
+    marks: &'a [bool],
     others: &'a [u32],
 }
 
@@ -95,18 +54,21 @@ impl<'a, 'r, 'i> Model for Externals<'a, 'r, 'i> {
 }
 
 impl<'a, 'r, 'i> Externals<'a, 'r, 'i> {
-    // Lists the external inputs of an image in a column, which the caller has cleared.
-    pub fn list(image: &'r Image<'i, 'i>, column: &'a mut [u32]) -> Externals<'a, 'r, 'i>
-        requires { Lists (model_of image.now) 0 0 column.old }
+    // Lists the external inputs of an image: a mark for each id below the number of marks, none of which is set
+    // yet, and room for all others.
+    pub fn list(
+        image: &'r Image<'i, 'i>,
+        marks: &'a mut [bool],
+        others: &'a mut [u32],
+    ) -> Externals<'a, 'r, 'i>
+        requires { (marks.old ≡ replicate (length marks.old) false) × (length (model_of image.now).external_inputs ≤ length others.old) }
         ensures { result ≡ image.now }
     {
-        list_externals(image, column);
-        let h = half(column.len());
-        let n = others(column);
+        let others = list_externals(image, marks, others);
         Externals {
             image,
-            marks: &column[..h],
-            others: &column[h..h + n],
+            marks,
+            others,
         }
     }
 
@@ -118,12 +80,11 @@ impl<'a, 'r, 'i> Externals<'a, 'r, 'i> {
     }
 
     // An id is that of an external input.
-    pub fn contains(&self, id: ConnectorId) -> bool
-        ensures { result ≡ external (model_of self.now) id.0 }
+    pub fn contains(&self, id: usize) -> bool
+        ensures { result ≡ external (model_of self.now) id }
     {
-        let id = id.0 as usize;
         if id < self.marks.len() {
-            self.marks[id] == 1
+            self.marks[id]
         } else {
             is_among(self.others, id)
         }

@@ -7,4 +7,4 @@ pub returns : goal.returns
 unfolding rules_before6
 returns c =
     puts-more (puts-then (puts-then (puts-then (puts-then c.check_arena_ids.ensures c.check_boundary_outputs.ensures) c.check_single_assignment.ensures) c.check_connections.ensures) c.check_crossed_bounds.ensures)
-    (omega arith) (rw (c.image-image.ensures, c.requires.one))
+    (omega arith) (rw (c.image-image.ensures, c.externals.ensures))

@@ -6,4 +6,4 @@ use Rattle.structural_assignment.specs.PerRecord.{most_assignment_faults}
 use Rattle.structural_assignment.proofs.check_single_assignment.Given as goal
 
 abbrev pub invariant-loop-i : goal.invariant-loop-i
-invariant-loop-i l = Turns (λ i. assignment_faults (model_of l.degrees) i (connector (model_of l.degrees) i)) most_assignment_faults l.initial.report l.report l.i
+invariant-loop-i l = Turns (λ i. assignment_faults (model_of l.drivers) i (connector (model_of l.drivers) i)) most_assignment_faults l.initial.report l.report l.i

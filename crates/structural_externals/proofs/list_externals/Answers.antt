@@ -1,14 +1,17 @@
--- `structural_externals::list_externals` meets its contract.
-use borrow.Author.Rules.{rules}
-use Rattle.std.proofs.Common.{arith}
-use Rattle.structural_externals.proofs.Laws.{others-room, others-fit, others-few, lists-all}
+-- An id with a mark, or one without; then all are listed.
+use Rattle.std.proofs.Common.{◌<◌, length, arith}
+use Rattle.oce_model.specs.Model.{model_of}
+use Rattle.structural_externals.proofs.Laws.{lists-hit, lists-miss, lists-all}
 use Rattle.structural_externals.proofs.list_externals.Goals as goal
+use Rattle.structural_externals.proofs.list_externals.Goals.{then-id-marks, else-id-marks}
 
-pub list_one-n-requires : goal.list_one-n-requires
-list_one-n-requires c = search (others-room, rules)
-
-pub sort_others-requires : goal.sort_others-requires
-sort_others-requires c = search (others-fit, others-few, rules)
+pub loop-k-preserved : goal.loop-k-preserved
+loop-k-preserved c =
+    let inside : c.loop-k.k < length (model_of c.args.image.now).external_inputs = omega arith in
+    elim c.if-id-marks.branch [
+      | then-id-marks w ↦ rw (w.marks-is, w.others-is, w.n-is) (lists-hit c.loop-k.invariant inside c.external_input-id.ensures (omega arith))
+      | else-id-marks w ↦ rw (w.marks-is, w.others-is, w.n-is) (lists-miss c.loop-k.invariant inside c.external_input-id.ensures (omega arith))
+    ]
 
 pub returns : goal.returns
-returns c = lists-all c.loop-k.invariant (omega arith) c.sort_others.ensures
+returns c = lists-all c.loop-k.invariant _ (omega arith) c.sort.ensures

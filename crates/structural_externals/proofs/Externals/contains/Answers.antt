@@ -7,4 +7,4 @@ pub is_among-requires : goal.is_among-requires
 is_among-requires c = ids-ascend c.self.invariant
 
 pub returns-else-id-self : goal.returns-else-id-self
-returns-else-id-self c = c.is_among.ensures ∙ rw (← c.self.view_is) (ids-tell c.self.invariant c.args.id.0 (omega arith))
+returns-else-id-self c = c.is_among.ensures ∙ rw (← c.self.view_is) (ids-tell c.self.invariant c.args.id (omega arith))
