@@ -2,7 +2,7 @@
 // several members and an external one.
 #![tactic(auto)]
 
-ghost use Rattle.std.specs.Prelude.{◌≡◌, ◌+◌, ◌%◌, ◌<◌, ◌≤◌, length, get_or, take};
+ghost use Rattle.std.specs.Prelude.{◌≡◌, ◌+◌, ◌%◌, ◌<◌, ◌≤◌, length};
 ghost use Rattle.base.specs.Lists.{tab};
 ghost use Rattle.oce_model.specs.Model.{model_of};
 ghost use Rattle.crossed_members.specs.Members.{member_count, is_member};
@@ -67,13 +67,13 @@ fn read_member(image: &Image, x: usize) -> Member
     requires { is_member (model_of image.now) x }
     ensures { result ≡ member_value (model_of image.now) x }
 {
-    let i = member_iri(image, x);
+    let iri = member_iri(image, x);
     let bucket = if member_joins(image, x) {
-        Some(bucket_of(image.text(usize::from(i))))
+        Some(bucket_of(image.text(usize::from(iri))))
     } else {
         None
     };
-    Member { iri: i, bucket }
+    Member { iri, bucket }
 }
 
 impl Known {
@@ -118,8 +118,8 @@ fn note_all(externals: &Externals, members: &mut [Member], known: &mut [Known])
     ensures members { members.new ≡ tab (member_count (model_of externals.now)) (member_value (model_of externals.now)) }
     ensures known { Noted (model_of externals.now) (member_count (model_of externals.now)) known.new }
 {
-    for x in 0..members.len() {
-        members[x] = note_one(externals, x, known);
+    for (x, member) in members.iter_mut().enumerate() {
+        *member = note_one(externals, x, known);
     }
 }
 
@@ -132,10 +132,14 @@ fn is_in_crowd(known: &[Known], member: Member) -> bool
     member.bucket.is_some_and(|b| known.get(usize::from(b)).is_some_and(|k| k.is_crowded()))
 }
 
-// Those of the members whose bucket is crowded, at the front of records; how many there are.
-fn collect_known(members: &[Member], known: &[Known], records: &mut [usize]) -> usize
+// Those of the members whose bucket is crowded, at the front of records.
+fn collect_known<'r>(
+    members: &[Member],
+    known: &[Known],
+    records: &'r mut [usize],
+) -> &'r mut [usize]
     requires { length members.now ≤ length records.old }
-    ensures { (take result records.new ≡ collected members.now known.now) × (result ≤ length members.now) }
+    ensures { result.now ≡ collected members.now known.now }
 {
     let mut n = 0;
     for (x, member) in members.iter().enumerate() {
@@ -144,18 +148,18 @@ fn collect_known(members: &[Member], known: &[Known], records: &mut [usize]) -> 
             n += 1;
         }
     }
-    n
+    &mut records[..n]
 }
 
 // The members, in a column that has a place for each, and those whose bucket is crowded, at the front of
-// records; how many these are.
-pub fn collect_crowded(
+// records.
+pub fn collect_crowded<'r>(
     externals: &Externals,
     members: &mut [Member],
-    records: &mut [usize],
-) -> usize
+    records: &'r mut [usize],
+) -> &'r mut [usize]
     requires { (length members.old ≡ member_count (model_of externals.now)) × (member_count (model_of externals.now) ≤ length records.old) }
-    ensures records { (take result records.new ≡ crowded_members (model_of externals.now) (member_count (model_of externals.now))) × (result ≤ member_count (model_of externals.now)) }
+    ensures crowded { result.now ≡ crowded_members (model_of externals.now) (member_count (model_of externals.now)) }
     ensures members { members.new ≡ tab (member_count (model_of externals.now)) (member_value (model_of externals.now)) }
 {
     let mut known = [Known::Empty; BUCKETS];

@@ -1,11 +1,10 @@
 -- What the functions over the open group and one member return.
 use Prim.Native.Nat.{ℕ, zero, suc, ◌+◌, ◌-◌, ◌≤◌, ◌<◌}
-use native.Mathlib.Nat.{min-le_left}
 use native.Mathlib.Omega.{arith}
 use mathlib.Core.Path.{◌≡◌, refl, sym, ap, fun_ext, ◌∙◌}
 use mathlib.Core.Bool.{Bool, true, false, cond}
 use mathlib.Core.List.{List, [], ◌∷◌, ◌++◌}
-use lib.ListN.{length, get_or, take, length-take, get_or-eq_default}
+use lib.ListN.{length, get_or, length-append, get_or-eq_default}
 use native.Mathlib.Decide.{dec_lt}
 use borrow.Author.Tests.{le-ltb}
 use Rattle.base.specs.Lists.{each, tab, only, same, below}
@@ -101,17 +100,22 @@ module _ (key : ℕ → List ℕ) (xs : List ℕ) {ys : List ℕ} (e : ys ≡ so
   pub members-sorted : (n : ℕ) → Below n xs → AllMembers n ys
   members-sorted n b = rw e (sorted-members n key xs b)
 
-  length-sorted : length ys ≡ length xs
+  pub length-sorted : length ys ≡ length xs
   length-sorted = rw e (sorted-length (goes_first key) xs)
-
--- the front of a list, sorted, has no more elements than were cut off
-pub front-few : (key : ℕ → List ℕ) (xs : List ℕ) {ys : List ℕ} {k n : ℕ} → ys ≡ sorted (goes_first key) (take k xs) → k ≤ n → length ys ≤ n
-front-few key xs {k = k} e h = omega (arith, length-sorted key (take k xs) e, length-take k xs, min-le_left k (length xs))
 
 crowded-below : (m : Model) (n k : ℕ) → k ≤ n → Below n (crowded_below m n k)
 unfolding crowded_below each
 crowded-below m n zero h = tt
 crowded-below m n (suc k) h = below-append n (crowded_below m n k) (only (is_crowded m n k) k) (crowded-below m n k (omega arith)) (below-only n (is_crowded m n k) k h)
+
+crowded-few : (m : Model) (n k : ℕ) → length (crowded_below m n k) ≤ k
+unfolding crowded_below each
+crowded-few m n zero = omega arith
+crowded-few m n (suc k) = arm (is_crowded m n k) (crowded-few m n k)
+  where
+    arm : (t : Bool) → length (crowded_below m n k) ≤ k → length (crowded_below m n k ++ only t k) ≤ suc k
+    arm true h = omega (arith, h, length-append (crowded_below m n k) (k ∷ []))
+    arm false h = omega (arith, h, length-append (crowded_below m n k) [])
 
 -- ---- the column of members gives the keys
 
@@ -147,6 +151,9 @@ module _ (m : Model) where
   module _ {xs : List ℕ} (e : xs ≡ crowded_members m (member_count m)) where
     pub collected-below : Below (member_count m) xs
     collected-below = rw e (crowded-below m (member_count m) (member_count m) (omega arith))
+
+    pub collected-few : length xs ≤ member_count m
+    collected-few = rw e (crowded-few m (member_count m) (member_count m))
 
     pub collected-faults : groups_faults m (runs (member_key m) (sorted (goes_first (member_key m)) xs)) ≡ groups_faults m (groups m)
     collected-faults = rw e (crowded-faults m (member_count m) ∙ sorted-faults m refl)

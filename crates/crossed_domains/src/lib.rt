@@ -28,7 +28,7 @@ const RULE: u8 = 5;
 const DOMAINS_DETAIL: u8 = 4;
 
 // The most members that an image has: connectors and boundary inputs.
-const MOST_MEMBERS: usize = MOST_CONNECTORS + MOST_BOUNDARY_INPUTS;
+const ALL_MEMBERS: usize = MOST_CONNECTORS + MOST_BOUNDARY_INPUTS;
 
 // So many have shorter arrays, which are sooner cleared.
 const FEW_MEMBERS: usize = 256;
@@ -157,8 +157,7 @@ fn report_crowded(
     requires { (length members.old ≡ member_count (model_of externals.now)) × (member_count (model_of externals.now) ≤ length records.old) × (member_count (model_of externals.now) ≤ length scratch.old) × (member_count (model_of externals.now) < short_range) × Room (member_count (model_of externals.now)) report.old }
     ensures { Puts (member_count (model_of externals.now)) (groups_faults (model_of externals.now) (groups (model_of externals.now))) report.old report.new }
 {
-    let k = collect_crowded(externals, members, records);
-    let crowd = &mut records[..k];
+    let crowd = collect_crowded(externals, members, records);
     let order = ByText {
         image: externals.image(),
         members: &*members,
@@ -197,6 +196,6 @@ pub fn check_combined_input_domains(externals: &Externals, report: &mut Report)
     if member_count(externals.image()) <= FEW_MEMBERS {
         domains_in::<FEW_MEMBERS>(externals, report);
     } else {
-        domains_in::<MOST_MEMBERS>(externals, report);
+        domains_in::<ALL_MEMBERS>(externals, report);
     }
 }
