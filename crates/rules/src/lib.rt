@@ -61,10 +61,7 @@ fn run_in<const CONNECTORS: usize, const EXTERNALS: usize>(
     let drivers = Drivers::of(image, &mut degrees, &mut marks, &mut others);
     let mut report = Report {
         bytes: report,
-        counted: Counted {
-            errors: 0,
-            warnings: 0,
-        },
+        counted: Counted::default(),
     };
     all_rules(&drivers, slots, &mut report);
     let Report { bytes: _, counted } = report;
