@@ -63,6 +63,7 @@ fn bucket_of(t: &[u8]) -> u16
     }
 }
 
+// Member x, as the column of members has it.
 fn read_member(image: &Image, x: usize) -> Member
     requires { is_member (model_of image.now) x }
     ensures { result ≡ member_value (model_of image.now) x }
@@ -90,6 +91,7 @@ impl Known {
         }
     }
 
+    // Several members, one of them external.
     fn is_crowded(self) -> bool
         ensures { result ≡ crowded self }
     {

@@ -100,6 +100,7 @@ impl Pass {
 
 // ---- one member more
 
+// The iris of two members have the same bytes.
 fn same_key(image: &Image, x: usize, y: usize) -> bool
     requires { is_member (model_of image.now) x × is_member (model_of image.now) y }
     ensures { result ≡ same_key (model_of image.now) x y }

@@ -38,6 +38,7 @@ pub fn member_iri(image: &Image, x: usize) -> u16
     }
 }
 
+// Its attributes.
 #[tactic(auto, unfolding(crossed_bounds::specs::CrossedBounds::member_attrs))]
 fn member_attrs(image: &Image, x: usize) -> Attrs
     requires { is_member (model_of image.now) x }

@@ -14,6 +14,7 @@ use oce_model::{Attrs, IntAttrs, Kind, MAX_BIT, MIN_BIT, RealAttrs};
 
 // ---- crossed: min is above max, by number
 
+// Two ends of a Real range; one that isn't set crosses nothing.
 #[tactic(auto, unfolding(crossed_bounds::specs::Ranges::crossed_ends))]
 fn ends_crossed(lo: End, hi: End) -> bool
     ensures { result ≡ crossed_ends lo hi }
@@ -24,6 +25,7 @@ fn ends_crossed(lo: End, hi: End) -> bool
     }
 }
 
+// A range of either kind.
 #[tactic(auto, unfolding(crossed_bounds::specs::Ranges::crossed_bounds))]
 fn bounds_crossed(b: Bounds) -> bool
     ensures { result ≡ crossed_bounds b }
@@ -44,7 +46,7 @@ pub fn is_crossed(r: Range) -> bool
 
 // ---- what is left of several ranges
 
-// Of two ends the tighter one, of two equal ones the first.
+// Of two Real mins the tighter one, of two equal ones the first.
 #[tactic(auto, unfolding(crossed_bounds::specs::Ranges::higher))]
 fn higher_end(x: End, y: End) -> End
     ensures { result ≡ higher x y }
@@ -55,6 +57,7 @@ fn higher_end(x: End, y: End) -> End
     }
 }
 
+// Of two Real maxes likewise.
 #[tactic(auto, unfolding(crossed_bounds::specs::Ranges::lower))]
 fn lower_end(x: End, y: End) -> End
     ensures { result ≡ lower x y }
