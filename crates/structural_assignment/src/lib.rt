@@ -1,7 +1,7 @@
 // Rule 3, the Rust's `check_single_assignment`: each input is driven by one connection, or is external.
 #![tactic(auto)]
 
-ghost use Rattle.std.specs.Prelude.{◌≡◌, ◌*◌, ◌<◌, ◌≤◌, false, length, replicate};
+ghost use Rattle.std.specs.Prelude.{◌≡◌, ◌*◌, ◌<◌, ◌≤◌, length};
 ghost use Rattle.oce_model.specs.Format.{most_connectors};
 ghost use Rattle.oce_model.specs.Model.{model_of, connector, connector_count};
 ghost use Rattle.oce_diag.specs.Reporting.{Room, Puts};
@@ -49,9 +49,7 @@ impl<'a, 'r, 'i> Drivers<'a, 'r, 'i> {
         marks: &'a mut [bool],
         others: &'a mut [u32],
     ) -> Drivers<'a, 'r, 'i>
-        requires degrees { connector_count (model_of image.now) ≤ length degrees.old }
-        requires marks { marks.old ≡ replicate (length marks.old) false }
-        requires others { length (model_of image.now).external_inputs ≤ length others.old }
+        requires { (connector_count (model_of image.now) ≤ length degrees.old) × (length (model_of image.now).external_inputs ≤ length others.old) }
         ensures { result ≡ image.now }
     {
         Drivers {

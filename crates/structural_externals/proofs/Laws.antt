@@ -7,8 +7,7 @@ use mathlib.Core.Path.{◌≡◌, refl, sym, ap, ◌∙◌}
 use mathlib.Core.Bool.{Bool, true, false, cond, ◌||◌}
 use mathlib.Core.List.{List, [], ◌∷◌, ◌++◌, append-nil}
 use lib.Dec.{eqb, ltb, leb}
-use lib.ListN.{length, get_or, take, set, replicate, length-set}
-use Rattle.std.proofs.lemmas.List.{get_or-replicate}
+use lib.ListN.{length, get_or, take, set, length-set}
 use lib.Seq.{get_or-set_same, get_or-set_other, take-suc, take_all, take-suc-set, take-append_seam, length-take-le}
 use borrow.Author.Tests.{eq-eqb, ne_eqb, le-leb, lt-leb, leb-false}
 use Rattle.base.specs.Lists.{any, keep}
@@ -18,7 +17,7 @@ use Rattle.structural.specs.Degrees.{external}
 use Rattle.sorting.specs.Sort.{sorted, Ascending}
 use Rattle.sorting.proofs.Laws.{sorted-length}
 use Rattle.sorting.proofs.Sorted.{sorted-ascending, any-sorted}
-use Rattle.structural_externals.specs.Columns.{others, Lists, Split}
+use Rattle.structural_externals.specs.Columns.{others, Split}
 
 -- ---- one id more
 
@@ -52,10 +51,17 @@ module _ (l : List ℕ) (k : ℕ) (inside : k < length l) where
   unfolding keep
   others-miss h b = rw one_more (keep_append (leb h) (take k l) (get_or l k 0 ∷ []) ∙ rw (le-leb h (get_or l k 0) b))
 
+-- of the first k external inputs: each id that has a mark is marked, and the n others stand in front
+pub record Lists (m : Model) (k n : ℕ) (marks : List Bool) (ids : List ℕ) : Type 0 where
+  pub serves : length m.external_inputs ≤ length ids
+  pub each : (i : ℕ) → i < length marks → get_or marks i false ≡ any (eqb i) (take k m.external_inputs)
+  pub few : n ≤ k
+  pub rest : take n ids ≡ others (length marks) (take k m.external_inputs)
+
 -- none listed yet
-pub lists-none : {m : Model} {marks : List Bool} {ids : List ℕ} → marks ≡ replicate (length marks) false → length m.external_inputs ≤ length ids → Lists m 0 0 marks ids
+pub lists-none : {m : Model} {marks : List Bool} {ids : List ℕ} → ((i : ℕ) → i < length marks → get_or marks i false ≡ false) → length m.external_inputs ≤ length ids → Lists m 0 0 marks ids
 unfolding any keep
-lists-none {m} {marks} {ids} e s = record { serves = s; each = λ i l. ap (λ t. get_or t i false) e ∙ get_or-replicate (length marks) i false false l; few = omega arith; rest = refl }
+lists-none e s = record { serves = s; each = e; few = omega arith; rest = refl }
 
 module _ {m : Model} {k n : ℕ} {marks : List Bool} {ids : List ℕ} (v : Lists m k n marks ids) where
   -- there is room for one more
