@@ -4,21 +4,22 @@ use native.Mathlib.Decide.{ℕ_discrete}
 use native.Mathlib.Omega.{arith}
 use mathlib.Core.Path.{◌≡◌, sym, ◌∙◌}
 use mathlib.Core.Bool.{cond, ◌||◌}
-use mathlib.Core.List.{◌++◌}
+use mathlib.Core.List.{List, ◌++◌}
+use Rattle.std.specs.Prelude.{Option, None}
 use lib.Dec.{ltb}
 use lib.ListN.{length, replicate, length-replicate, get_or-replicate}
 use borrow.Author.Tests.{lt-ltb, le-ltb}
-use Rattle.oce_model.specs.Model.{Model, connector_count}
+use Rattle.oce_model.specs.Model.{Model, model_of, connector_count}
 use Rattle.oce_diag.specs.Diagnostics.{errors, has_error}
 use Rattle.oce_diag.specs.Reporting.{Puts}
 use Rattle.oce_diag.specs.declared.report.Report.{Report}
 use Rattle.oce_diag.proofs.Diagnostics.{no-errors, some-error}
 use Rattle.oce_diag.proofs.Reporting.{puts-within, puts-more}
-use Rattle.unify.specs.Slots.{Slots}
-use Rattle.unify.specs.Unify.{filled_slots, clusters_faults, propagated, rule6}
+use Rattle.unify.specs.Unify.{clusters_faults, propagated, rule6}
+use Rattle.unify_slots.specs.Slots.{SlotTable, filled}
 use Rattle.unify_links.specs.Links.{link_count, Empty}
 use Rattle.unify_cluster.specs.Clusters.{most_cluster_faults}
-use Rattle.unify_clusters.specs.Unified.{most_links, Roomy, Unified}
+use Rattle.unify_clusters.specs.Unified.{Roomy, Unified}
 
 -- what rule 6 adds to a list that holds e errors, by whether there is an error after all roots
 rule6-tested : (m : Model) (e : ℕ) → e + errors (clusters_faults m) ≡ 0 → rule6 m (ltb 0 e) ≡ clusters_faults m ++ propagated m
@@ -33,26 +34,18 @@ rule6-not m e h = arm (ℕ_discrete e 0)
     arm (yes z) = rw (le-ltb 0 e (omega arith), some-error (clusters_faults m) (omega arith))
     arm (no z) = rw (lt-ltb 0 e (omega arith))
 
-module _ (m : Model) {σ : Slots} {a b : Report} (f : σ ≡ filled_slots m) (p : Puts (most_cluster_faults * connector_count m) (clusters_faults m) a b) where
-  pub unified-tested : {c : Report} → Puts (connector_count m) (propagated m) b c → b.counted.errors ≡ 0 → Unified m σ a c
+module _ (s : List ℕ) {t : SlotTable} {a b : Report} (f : t ≡ filled s) (p : Puts (most_cluster_faults * connector_count (model_of s)) (clusters_faults (model_of s)) a b) where
+  abbrev pub m : Model
+  m = model_of s
+
+  pub unified-tested : {c : Report} → Puts (connector_count m) (propagated m) b c → b.counted.errors ≡ 0 → Unified s t a c
   unified-tested q e = record {
     slots = f;
     puts = rw (rule6-tested m a.counted.errors (sym p.put.errors ∙ e)) (puts-within p q (omega arith));
   }
 
-  pub unified-not : (b.counted.errors ≡ 0 → ⊥) → Unified m σ a b
+  pub unified-not : (b.counted.errors ≡ 0 → ⊥) → Unified s t a b
   unified-not e = record {
     slots = f;
     puts = puts-more p (omega arith) (sym (rule6-not m a.counted.errors (λ z. e (p.put.errors ∙ z))));
   }
-
--- fresh arrays: heads that hold no link's number, and room
-module _ (m : Model) {connectors links members : ℕ} (y : Roomy m connectors links members) where
-  pub heads-empty : Empty m (replicate connectors most_links)
-  heads-empty = record { none = λ r k. let e : r < connectors = omega (arith, y.heads) in rw (get_or-replicate {A = ℕ} connectors r most_links 0 e) y.most }
-
-  pub heads-room : connector_count m ≤ length {A = ℕ} (replicate connectors most_links)
-  heads-room = rw (length-replicate {A = ℕ} connectors most_links) y.heads
-
-  pub nexts-room : link_count m ≤ length {A = ℕ} (replicate links 0)
-  nexts-room = rw (length-replicate {A = ℕ} links 0) y.nexts

@@ -9,49 +9,50 @@ use borrow.Author.Tests.{lt-ltb, le-ltb}
 use Rattle.base.specs.Lists.{steps}
 use Rattle.base.proofs.Lists.{steps_next}
 use Rattle.oce_model.specs.Format.{most_connectors}
-use Rattle.oce_model.specs.Model.{Model, connector_count}
+use Rattle.oce_model.specs.Model.{Model, model_of, connector_count}
 use Rattle.oce_diag.specs.Reporting.{Room, Puts, Turns}
 use Rattle.oce_diag.specs.declared.Diagnostic.{Diagnostic}
 use Rattle.oce_diag.specs.declared.report.Report.{Report}
 use Rattle.oce_diag.proofs.Reporting.{puts-none, turns-start, turns-next, turns-end, turns-room}
 use Rattle.unify.specs.Clusters.{driven, is_root}
 use Rattle.unify.specs.Details.{unified_details}
-use Rattle.unify.specs.Slots.{Slots, slots_of}
 use Rattle.unify.specs.Unify.{fill_root, fill_details, root_faults, cluster_faults, filled_to, filled_slots, clusters_faults}
-use Rattle.unify.proofs.Local.{filled_to-length}
-use Rattle.unify_slots.specs.Slots.{slot_count}
+use Rattle.unify_slots.specs.Slots.{SlotTable, with_attrs, loaded, filled_before, filled}
 use Rattle.unify_links.specs.Links.{Gathered}
 use Rattle.unify_cluster.specs.Clusters.{most_cluster_faults}
 use Rattle.unify_clusters.specs.Unified.{most_roots_faults}
 
 -- ---- one root
 
-module _ (m : Model) {r : ℕ} {js : List ℕ} (g : Gathered m r js) where
+module _ (s : List ℕ) {r : ℕ} {js : List ℕ} (g : Gathered (model_of s) r js) {t : SlotTable} (at : t ≡ filled_before s r) where
+  abbrev pub m : Model
+  m = model_of s
+
   module _ (h : length js ≤ 1) where
     not_root : is_root m r ≡ false
     unfolding is_root
     not_root = le-ltb 0 (length (driven m r)) (omega (arith, ap length g.cluster))
 
-    pub no-root-filled : (σ : Slots) → σ ≡ fill_root m r σ
-    unfolding fill_root
-    no-root-filled σ = rw not_root
+    pub no-root-filled : t ≡ filled_before s (r + 1)
+    unfolding fill_root filled_to
+    no-root-filled = at ∙ ap (with_attrs (filled_before s r)) (rw (steps_next r, not_root))
 
-    pub no-root-reported : (σ : Slots) {n : ℕ} {a : Report} → Puts n (root_faults m r σ) a a
+    pub no-root-reported : {n : ℕ} {a : Report} → Puts n (root_faults m r (filled_to m r)) a a
     unfolding root_faults
-    no-root-reported σ = rw not_root puts-none
+    no-root-reported = rw not_root puts-none
 
   module _ (h : 1 < length js) where
     a-root : is_root m r ≡ true
     unfolding is_root
     a-root = lt-ltb 0 (length (driven m r)) (omega (arith, ap length g.cluster))
 
-    pub root-filled : (σ : Slots) {σ' : Slots} → σ' ≡ fill_details m.texts js unified_details σ → σ' ≡ fill_root m r σ
-    unfolding fill_root
-    root-filled σ e = e ∙ rw (a-root, ← g.cluster)
+    pub root-filled : {t' : SlotTable} → t' ≡ with_attrs t (fill_details (model_of t.image).texts js unified_details t.attrs) → t' ≡ filled_before s (r + 1)
+    unfolding fill_root filled_to
+    root-filled e = e ∙ rw at (ap (with_attrs (filled_before s r)) (rw (steps_next r, a-root, ← g.cluster)))
 
-    pub root-reported : (σ : Slots) {n : ℕ} {a b : Report} → Puts n (cluster_faults m r js σ) a b → Puts n (root_faults m r σ) a b
+    pub root-reported : {n : ℕ} {a b : Report} → Puts n (cluster_faults (model_of t.image) r js t.attrs) a b → Puts n (root_faults m r (filled_to m r)) a b
     unfolding root_faults
-    root-reported σ p = rw (a-root, ← g.cluster) p
+    root-reported p = rw (a-root, ← g.cluster) (rw at at p)
 
 -- ---- all roots
 
@@ -60,33 +61,26 @@ abbrev pub faults_of : Model → ℕ → List Diagnostic
 faults_of m r = root_faults m r (filled_to m r)
 
 -- the roots before r
-pub record Roots (m : Model) (σ : Slots) (a b : Report) (r : ℕ) : Type 0 where
-  pub slots : σ ≡ filled_to m r
-  pub turns : Turns (faults_of m) most_cluster_faults a b r
+pub record Roots (s : List ℕ) (t : SlotTable) (a b : Report) (r : ℕ) : Type 0 where
+  pub slots : t ≡ filled_before s r
+  pub turns : Turns (faults_of (model_of s)) most_cluster_faults a b r
 
-module _ (m : Model) {σ : Slots} {a : Report} where
-  pub roots-start : σ ≡ slots_of m → Roots m σ a a 0
+module _ (s : List ℕ) {t : SlotTable} {a : Report} where
+  pub roots-start : t ≡ loaded s → Roots s t a a 0
   unfolding filled_to steps
   roots-start e = record { slots = e; turns = turns-start }
 
-  module _ {b : Report} {r : ℕ} (v : Roots m σ a b r) where
-    pub roots-count : length σ ≡ slot_count m
-    roots-count = rw v.slots (filled_to-length m r)
+  module _ {b : Report} {r : ℕ} (v : Roots s t a b r) where
+    pub roots-room : Room most_roots_faults a → r < connector_count (model_of s) → connector_count (model_of s) ≤ most_connectors → Room most_cluster_faults b
+    roots-room h l k = turns-room v.turns (connector_count (model_of s)) most_connectors most_roots_faults h l k (omega arith)
 
-    pub roots-room : Room most_roots_faults a → r < connector_count m → connector_count m ≤ most_connectors → Room most_cluster_faults b
-    roots-room h l k = turns-room v.turns (connector_count m) most_connectors most_roots_faults h l k (omega arith)
+    pub roots-next : {t' : SlotTable} {c : Report} → t' ≡ filled_before s (r + 1) → Puts most_cluster_faults (faults_of (model_of s) r) b c → Roots s t' a c (r + 1)
+    roots-next e p = record { slots = e; turns = turns-next v.turns p }
 
-    pub roots-next : {σ' : Slots} {c : Report} → σ' ≡ fill_root m r σ → Puts most_cluster_faults (root_faults m r σ) b c → Roots m σ' a c (r + 1)
-    unfolding filled_to
-    roots-next e p = record {
-      slots = e ∙ rw (v.slots, steps_next r);
-      turns = turns-next v.turns (rw v.slots at p);
-    }
-
-    pub roots-filled : r ≡ connector_count m → σ ≡ filled_slots m
+    pub roots-filled : r ≡ connector_count (model_of s) → t ≡ filled s
     unfolding filled_slots
     roots-filled e = v.slots ∙ rw e
 
-    pub roots-reported : r ≡ connector_count m → Puts (most_cluster_faults * connector_count m) (clusters_faults m) a b
+    pub roots-reported : r ≡ connector_count (model_of s) → Puts (most_cluster_faults * connector_count (model_of s)) (clusters_faults (model_of s)) a b
     unfolding clusters_faults
-    roots-reported e = turns-end v.turns (connector_count m) (most_cluster_faults * connector_count m) e (omega arith) (omega arith)
+    roots-reported e = turns-end v.turns (connector_count (model_of s)) (most_cluster_faults * connector_count (model_of s)) e (omega arith) (omega arith)

@@ -1,11 +1,11 @@
 -- What the code gives for all of rule 6 (FORMAT 16).
-use Rattle.std.specs.Prelude.{ℕ, ◌+◌, ◌*◌, ◌≤◌, ◌<◌, ◌≡◌, ltb}
+use Rattle.std.specs.Prelude.{ℕ, ◌+◌, ◌*◌, ◌≤◌, ◌<◌, ◌≡◌, List, ltb}
 use Rattle.oce_model.specs.Format.{most_connectors, most_connections, most_boundary_outputs}
-use Rattle.oce_model.specs.Model.{Model, connector_count}
+use Rattle.oce_model.specs.Model.{Model, model_of, connector_count}
 use Rattle.oce_diag.specs.Reporting.{Puts}
 use Rattle.oce_diag.specs.declared.report.Report.{Report}
-use Rattle.unify.specs.Slots.{Slots}
-use Rattle.unify.specs.Unify.{filled_slots, rule6}
+use Rattle.unify.specs.Unify.{rule6}
+use Rattle.unify_slots.specs.Slots.{SlotTable, filled}
 use Rattle.unify_links.specs.Links.{link_count}
 use Rattle.unify_cluster.specs.Clusters.{most_cluster_faults}
 
@@ -29,7 +29,7 @@ most_roots_faults = most_cluster_faults * most_connectors
 abbrev pub most_unified_faults : ℕ
 most_unified_faults = (most_cluster_faults + 1) * most_connectors
 
--- the slots after all roots, and a report r that has become r' by rule 6
-pub record Unified (m : Model) (σ : Slots) (r r' : Report) : Type 0 where
-  pub slots : σ ≡ filled_slots m
-  pub puts : Puts ((most_cluster_faults + 1) * connector_count m) (rule6 m (ltb 0 r.counted.errors)) r r'
+-- the slots of image s after all roots, and a report r that has become r' by rule 6
+pub record Unified (s : List ℕ) (t : SlotTable) (r r' : Report) : Type 0 where
+  pub slots : t ≡ filled s
+  pub puts : Puts ((most_cluster_faults + 1) * connector_count (model_of s)) (rule6 (model_of s) (ltb 0 r.counted.errors)) r r'

@@ -1,6 +1,6 @@
 -- Laws of links and their lists.
 use Rattle.std.specs.Prelude.{Option}
-use Rattle.std.specs.Prelude.{None, Some}
+use Rattle.std.specs.Prelude.{None, Some, is_some}
 use Prim.Native.Nat.{ℕ, zero, suc, ◌+◌, ◌-◌, ◌≤◌, ◌<◌}
 use native.Mathlib.Numerals.{add-one}
 use native.Mathlib.Decide.{dec_lt, ℕ_discrete}
@@ -26,8 +26,7 @@ use Rattle.structural.specs.Structural.{in_range, matches}
 use Rattle.structural.specs.Degrees.{degree}
 use Rattle.unify.specs.Clusters.{drives, sound, target, alias, driven, is_root}
 use Rattle.unify_slots.specs.Slots.{slot_count, Inside}
-use Rattle.unify_links.specs.Links.{link_count, root_at, connection_root, output_root, root_of, target_of, belongs, member, Headed, Leads, Linked, Gathered}
-use Rattle.oce_model.specs.declared.ConnectorId.{ConnectorId}
+use Rattle.unify_links.specs.Links.{link_count, root_at, connection_root, output_root, root_of, target_of, belongs, member, Empty, place, Leads, Linked, Gathered}
 
 -- ---- roots
 
@@ -212,54 +211,61 @@ root-of-hit m r k h e =
     (rw some-member (rw (length-append (each k f ++ (target_of m k ∷ [])) (each y (λ i. f (k + 1 + i)))) (omega (arith, length-append (each k f) (target_of m k ∷ [])))))
 
 -- one whose list is empty is none
-pub root-of-none : (m : Model) (r k : ℕ) → Leads m r 0 k → link_count m ≤ k → is_root m r ≡ false
+root-of-none : (m : Model) (r : ℕ) → Leads m r 0 None → is_root m r ≡ false
 unfolding is_root each
-root-of-none m r k v h = rw (← driven-same m r, v.missing h)
+root-of-none m r v = rw (← driven-same m r, v.found)
 
 -- a link of another root lies between
-leads-past : (m : Model) (r i k : ℕ) → (root_of m i ≡ root_at r → ⊥) → Leads m r (i + 1) k → Leads m r i k
-leads-past m r i k n v = record {
-  above = omega (arith, v.above);
-  hits = v.hits;
-  found = λ h. v.found h ∙ skip m r i n;
-  missing = λ h. v.missing h ∙ skip m r i n;
+leads-past : (m : Model) (r i : ℕ) (o : Option ℕ) → (root_of m i ≡ root_at r → ⊥) → Leads m r (i + 1) o → Leads m r i o
+leads-past m r i o n v = record {
+  hits = λ k e. let h = v.hits k e in (omega arith, h.1, h.2);
+  found = v.found ∙ skip m r i n;
 }
 
-leads-here : (m : Model) (r i : ℕ) → i < link_count m → root_of m i ≡ root_at r → Leads m r i i
-leads-here m r i h e = record { above = omega arith; hits = λ _. e; found = λ _. refl; missing = λ l. absurd (omega arith) }
+leads-here : (m : Model) (r i : ℕ) → i < link_count m → root_of m i ≡ root_at r → Leads m r i (Some i)
+leads-here m r i h e = record { hits = λ k q. let s : i ≡ k = cc in rw (← s) (omega arith, h, e); found = refl }
 
 -- a link that belongs to no root
-linked-skip : {m : Model} {k : ℕ} {head next : List ℕ} → Linked m (k + 1) head next → None ≡ root_of m k → Linked m k head next
+linked-skip : {m : Model} {k : ℕ} {head next : List (Option ℕ)} → Linked m (k + 1) head next → None ≡ root_of m k → Linked m k head next
 linked-skip {m} {k} {head} {next} v none = record {
-  heads = λ q l. leads-past m q k (get_or head q 0) (λ e. no-root (none ∙ e)) (v.heads q l);
+  heads = λ q l. leads-past m q k (get_or head q None) (λ e. no-root (none ∙ e)) (v.heads q l);
   nexts = λ i q g l y. arm i q g l y (ℕ_discrete i k);
   room = v.room;
   room' = v.room';
 }
   where
-    arm : (i q : ℕ) → k ≤ i → i < link_count m → root_of m i ≡ root_at q → Dec (i ≡ k) → Leads m q (i + 1) (get_or next i 0)
+    arm : (i q : ℕ) → k ≤ i → i < link_count m → root_of m i ≡ root_at q → Dec (i ≡ k) → Leads m q (i + 1) (get_or next i None)
     arm i q g l y (yes e) = absurd (no-root (none ∙ sym (ap (root_of m) e) ∙ y))
     arm i q g l y (no n) = v.nexts i q (omega arith) l y
 
 -- a link that comes to the front of its root's list
-linked-push : {m : Model} {k : ℕ} {head next head' next' : List ℕ} {r : ℕ} → Linked m (k + 1) head next → root_at r ≡ root_of m k → r < connector_count m → k < link_count m
-    → head' ≡ set head r k → next' ≡ set next k (get_or head r 0) → Linked m k head' next'
+linked-push : {m : Model} {k : ℕ} {head next head' next' : List (Option ℕ)} {r : ℕ} → Linked m (k + 1) head next → root_at r ≡ root_of m k → r < connector_count m → k < link_count m
+    → head' ≡ set head r (Some k) → next' ≡ set next k (get_or head r None) → Linked m k head' next'
 linked-push {m} {k} {head} {next} {head'} {next'} {r} v er h l eh en = record {
   heads = λ q y. rw eh (heads q y (ℕ_discrete q r));
   nexts = λ i q g y b. rw en (nexts i q g y b (ℕ_discrete i k));
-  room = rw (eh, length-set head r k) v.room;
-  room' = rw (en, length-set next k (get_or head r 0)) v.room';
+  room = rw (eh, length-set head r (Some k)) v.room;
+  room' = rw (en, length-set next k (get_or head r None)) v.room';
 }
   where
-    heads : (q : ℕ) → q < connector_count m → Dec (q ≡ r) → Leads m q k (get_or (set head r k) q 0)
-    heads q y (yes e) = rw (e, get_or-set_same head r k 0 (omega (arith, v.room))) (leads-here m r k l (sym er))
-    heads q y (no n) = rw (get_or-set_other head r q k 0 n) (leads-past m q k (get_or head q 0) (λ e. n (sym (same-root (er ∙ e)))) (v.heads q y))
+    heads : (q : ℕ) → q < connector_count m → Dec (q ≡ r) → Leads m q k (get_or (set head r (Some k)) q None)
+    heads q y (yes e) = rw (e, get_or-set_same head r (Some k) None (omega (arith, v.room))) (leads-here m r k l (sym er))
+    heads q y (no n) = rw (get_or-set_other head r q (Some k) None n) (leads-past m q k (get_or head q None) (λ e. n (sym (same-root (er ∙ e)))) (v.heads q y))
 
-    nexts : (i q : ℕ) → k ≤ i → i < link_count m → root_of m i ≡ root_at q → Dec (i ≡ k) → Leads m q (i + 1) (get_or (set next k (get_or head r 0)) i 0)
+    nexts : (i q : ℕ) → k ≤ i → i < link_count m → root_of m i ≡ root_at q → Dec (i ≡ k) → Leads m q (i + 1) (get_or (set next k (get_or head r None)) i None)
     nexts i q g y b (yes e) =
         let same : r ≡ q = same-root (er ∙ sym (ap (root_of m) e) ∙ b) in
-        rw (e, get_or-set_same next k (get_or head r 0) 0 (omega (arith, v.room')), ← same) (v.heads r h)
-    nexts i q g y b (no n) = rw (get_or-set_other next k i (get_or head r 0) 0 n) (v.nexts i q (omega arith) y b)
+        rw (e, get_or-set_same next k (get_or head r None) None (omega (arith, v.room')), ← same) (v.heads r h)
+    nexts i q g y b (no n) = rw (get_or-set_other next k i (get_or head r None) None n) (v.nexts i q (omega arith) y b)
+
+-- no link yet
+pub linked-none : {m : Model} {n : ℕ} {head next : List (Option ℕ)} → Empty m head → connector_count m ≤ length head → link_count m ≤ length next → n ≡ link_count m → Linked m n head next
+linked-none {m} {n} y h k e = record {
+  heads = λ r g. rw (y.none r g) (record { hits = λ i q. absurd (cc); found = rw e });
+  nexts = λ i r g b q. absurd (omega arith);
+  room = h;
+  room' = k;
+}
 
 -- the root of a connection is a connector, and so is what it leads to
 connection-inside : (m : Model) (c : ModelConnection) (r : ℕ) → connection_root m c ≡ root_at r → (r < connector_count m) × (c.to < connector_count m)
@@ -302,7 +308,7 @@ module _ (m : Model) (k r : ℕ) (h : k < link_count m) (e : root_of m k ≡ roo
       arm true t e = omega (arith, (connection-inside m (connection m k) r e).1)
       arm false t e = omega (arith, ltb-false k (connection_count m) t)
 
-module _ {m : Model} {k : ℕ} {head next : List ℕ} (v : Linked m (k + 1) head next) {x : Option ConnectorId} (e : x ≡ root_of m k) where
+module _ {m : Model} {k : ℕ} {head next : List (Option ℕ)} (v : Linked m (k + 1) head next) {x : Option ConnectorId} (e : x ≡ root_of m k) where
   pub link-skip : x ≡ None → Linked m k head next
   link-skip n = linked-skip v (sym n ∙ e)
 
@@ -313,7 +319,7 @@ module _ {m : Model} {k : ℕ} {head next : List ℕ} (v : Linked m (k + 1) head
     pub head-there : root.0 < length head
     head-there = omega (arith, there, v.room)
 
-    pub link-push : {head' next' : List ℕ} → head' ≡ set head root.0 k → next' ≡ set next k (get_or head root.0 0) → Linked m k head' next'
+    pub link-push : {head' next' : List (Option ℕ)} → head' ≡ set head root.0 (Some k) → next' ≡ set next k (get_or head root.0 None) → Linked m k head' next'
     link-push eh en = linked-push v (sym of ∙ e) there b eh en
 
 -- ---- gathering a cluster
@@ -334,94 +340,74 @@ inside-more s xs x v h = record { each = λ i l. go i (dec_lt i (length xs)) l }
         let e : i ≡ length xs = omega (arith, length-append xs (x ∷ [])) in
         rw (e, get_or-append_seam xs x [] 0) h
 
--- the members up to link k, of `links`
-pub record Gathers (m : Model) (links r : ℕ) (members : List ℕ) (c k : ℕ) : Type 0 where
-  pub hits : k < link_count m → root_of m k ≡ root_at r
-  pub found : k < link_count m → take c members ≡ r ∷ each k (member m r)
-  pub missing : link_count m ≤ k → take c members ≡ r ∷ each (link_count m) (member m r)
+-- the first c members are those before link o
+pub record Gathers (m : Model) (r : ℕ) (members : List ℕ) (c : ℕ) (o : Option ℕ) : Type 0 where
+  pub leads : (k : ℕ) → o ≡ Some k → (c ≤ k + 1) × (k < link_count m) × (root_of m k ≡ root_at r)
+  pub found : take c members ≡ r ∷ each (place m o) (member m r)
   pub inside : Inside (slot_count m) (take c members)
-  pub fits : k < link_count m → c ≤ k + 1
   pub within : c ≤ link_count m + 1
   pub room : link_count m < length members
-  pub count : links ≡ link_count m
 
-pub gathers-start : (m : Model) {links r : ℕ} (members : List ℕ) {head next : List ℕ} → Linked m 0 head next → r < connector_count m
-    → link_count m < length members → links ≡ link_count m → Gathers m links r (set members 0 r) 1 (get_or head r 0)
+pub gathers-start : (m : Model) {r : ℕ} (members : List ℕ) {head next : List (Option ℕ)} → Linked m 0 head next → r < connector_count m
+    → link_count m < length members → Gathers m r (set members 0 r) 1 (get_or head r None)
 unfolding each
-gathers-start m {links} {r} members {head} {next} v h room e = go (v.heads r h) (take-suc-set members 0 r (omega arith))
-  where
-    go : {k : ℕ} → Leads m r 0 k → take 1 (set members 0 r) ≡ r ∷ [] → Gathers m links r (set members 0 r) 1 k
-    go {k} d q = record {
-      hits = d.hits;
-      found = λ y. q ∙ ap (λ (x : List ℕ). r ∷ x) (sym (d.found y));
-      missing = λ y. q ∙ ap (λ (x : List ℕ). r ∷ x) (sym (d.missing y));
+gathers-start m {r} members v h room =
+    let d = v.heads r h in
+    let q : take 1 (set members 0 r) ≡ r ∷ [] = take-suc-set members 0 r (omega arith) in
+    record {
+      leads = λ k e. let y = d.hits k e in (omega arith, y.1, y.2);
+      found = q ∙ ap (λ (x : List ℕ). r ∷ x) (sym d.found);
       inside = rw q (inside_one (slot_count m) r (omega arith));
-      fits = λ y. omega arith;
       within = omega arith;
       room = rw (length-set members 0 r) room;
-      count = e;
     }
 
-module _ {m : Model} {links r : ℕ} {members : List ℕ} {c k : ℕ} (g : Gathers m links r members c k) where
-  gathers-link : k < links → k < link_count m
-  gathers-link h = rw (← g.count) h
+module _ {m : Model} {r : ℕ} {members : List ℕ} {c : ℕ} {o : Option ℕ} (g : Gathers m r members c o) where
+  module _ {k : ℕ} (e : o ≡ Some k) where
+    pub gathers-link : k < link_count m
+    gathers-link = (g.leads k e).1
 
-  gathers-room : k < links → c < length members
-  gathers-room h = let h' : k < link_count m = gathers-link h in omega (arith, g.fits h', g.room)
+    pub gathers-room : c < length members
+    gathers-room = omega (arith, (g.leads k e).0, (g.leads k e).1, g.room)
 
-  pub gathers-turn : {head next : List ℕ} {t : ℕ} → t ≡ target_of m k → Linked m 0 head next → k < links
-      → Gathers m links r (set members c t) (c + 1) (get_or next k 0)
-  gathers-turn {next = next} {t = t} et v h =
-      go (v.nexts k r (omega arith) h' (g.hits h'))
-    where
-      h' : k < link_count m
-      h' = gathers-link h
+    pub gathers-turn : {head next : List (Option ℕ)} {t : ℕ} → t ≡ target_of m k → Linked m 0 head next → Gathers m r (set members c t) (c + 1) (get_or next k None)
+    gathers-turn {next = next} {t = t} et v =
+        let h = g.leads k e in
+        let d = v.nexts k r (omega arith) h.1 h.2 in
+        record {
+          leads = λ j q. let y = d.hits j q in (omega (arith, h.0, y.0), y.1, y.2);
+          found = joined ∙ ap (λ (x : List ℕ). r ∷ x) (sym d.found);
+          inside = rw more (inside-more (slot_count m) (take c members) (target_of m k) g.inside (target-inside m k r h.1 h.2));
+          within = omega (arith, h.0, h.1);
+          room = rw (length-set members c t) g.room;
+        }
+      where
+        more : take (c + 1) (set members c t) ≡ take c members ++ (target_of m k ∷ [])
+        more = rw (et, add-one c) (take-suc-set members c (target_of m k) gathers-room)
 
-      more : take (c + 1) (set members c t) ≡ take c members ++ (target_of m k ∷ [])
-      more = rw (et, add-one c) (take-suc-set members c (target_of m k) (gathers-room h))
+        joined : take (c + 1) (set members c t) ≡ r ∷ each (k + 1) (member m r)
+        joined = more ∙ rw (g.found, e, each_next k (member m r), member-hit m r k (g.leads k e).2)
 
-      joined : take (c + 1) (set members c t) ≡ r ∷ each (k + 1) (member m r)
-      joined = more ∙ rw (g.found h', each_next k (member m r), member-hit m r k (g.hits h'))
-
-      go : {k' : ℕ} → Leads m r (k + 1) k' → Gathers m links r (set members c t) (c + 1) k'
-      go {k'} d = record {
-        hits = d.hits;
-        found = λ y. joined ∙ ap (λ (x : List ℕ). r ∷ x) (sym (d.found y));
-        missing = λ y. joined ∙ ap (λ (x : List ℕ). r ∷ x) (sym (d.missing y));
-        inside = rw more (inside-more (slot_count m) (take c members) (target_of m k) g.inside (target-inside m k r h' (g.hits h')));
-        fits = λ y. omega (arith, d.above, g.fits h');
-        within = omega (arith, g.fits h', h');
-        room = rw (length-set members c t) g.room;
-        count = g.count;
-      }
-
-  pub gathers-less : {head next : List ℕ} → Linked m 0 head next → k < links → links - get_or next k 0 < links - k
-  gathers-less v h =
-      let h' : k < link_count m = gathers-link h in
-      omega (arith, (v.nexts k r (omega arith) h' (g.hits h')).above)
+    pub gathers-less : {head next : List (Option ℕ)} → Linked m 0 head next → link_count m - place m (get_or next k None) < link_count m - place m o
+    gathers-less {next = next} v = rw e (arm (get_or next k None) (v.nexts k r (omega arith) (g.leads k e).1 (g.leads k e).2))
+      where
+        arm : (x : Option ℕ) → Leads m r (k + 1) x → link_count m - place m x < link_count m - k
+        arm None d = omega (arith, (g.leads k e).1)
+        arm (Some j) d = omega (arith, (d.hits j refl).0, (g.leads k e).1)
 
   -- all links are passed
-  pub gathers-done : links ≤ k → Gathered m r (take c members)
-  gathers-done h = record {
-    cluster = g.missing (rw (← g.count) h) ∙ ap (λ (x : List ℕ). r ∷ x) (driven-same m r);
+  pub gathers-done : o ≡ None → Gathered m r (take c members)
+  gathers-done e = record {
+    cluster = g.found ∙ rw e (ap (λ (x : List ℕ). r ∷ x) (driven-same m r));
     inside = g.inside;
     few = rw (length-take-le c members (omega (arith, g.within, g.room))) g.within;
   }
 
 -- ---- roots by their heads
 
-pub linked-headed : {m : Model} {head next : List ℕ} → Linked m 0 head next → Headed m head
-linked-headed v = record { each = v.heads; room = v.room }
-
-module _ (m : Model) {n : ℕ} (en : n ≡ link_count m) {head : List ℕ} (y : Headed m head) (r : ℕ) (h : r < connector_count m) where
-  pub root-headed : ltb (get_or head r 0) n ≡ is_root m r
-  root-headed = arm (dec_lt (get_or head r 0) n)
-    where
-      k : ℕ
-      k = get_or head r 0
-
-      arm : Dec (k < n) → ltb k n ≡ is_root m r
-      arm (yes l) =
-          let l' : k < link_count m = rw (← en) l in
-          lt-ltb k n l ∙ sym (root-of-hit m r k l' ((y.each r h).hits l'))
-      arm (no l) = le-ltb k n (omega arith) ∙ sym (root-of-none m r k (y.each r h) (omega (arith, en)))
+pub root-headed : (m : Model) {head next : List (Option ℕ)} → Linked m 0 head next → (r : ℕ) → r < connector_count m → is_some (get_or head r None) ≡ is_root m r
+root-headed m {head} v r h = arm (get_or head r None) (v.heads r h)
+  where
+    arm : (o : Option ℕ) → Leads m r 0 o → is_some o ≡ is_root m r
+    arm None d = sym (root-of-none m r d)
+    arm (Some k) d = let y = d.hits k refl in sym (root-of-hit m r k y.1 y.2)

@@ -6,7 +6,6 @@ use Rattle.base.specs.Lists.{each, only}
 use Rattle.oce_model.specs.Model.{Connection, BoundaryOutput, Model, connection, boundary_output, connector_count, connection_count, boundary_output_count}
 use Rattle.unify.specs.Clusters.{drives, sound, driven}
 use Rattle.unify_slots.specs.Slots.{slot_count, Inside}
-use Rattle.unify_links.specs.declared.Links.{Links}
 use Rattle.oce_model.specs.declared.ConnectorId.{ConnectorId}
 
 abbrev pub link_count : Model → ℕ
@@ -39,34 +38,28 @@ belongs (Some root) r = eqb root.0 r
 unfoldable pub member : Model → ℕ → ℕ → List ℕ
 member m r k = only (belongs (root_of m k) r) (target_of m k)
 
--- ---- links in lists: `head` has the first link of each root, `next` the one behind each link. A number that is no link's ends a list
+-- ---- links in lists: `head` has the first link of each root, `next` the one behind each link
 
 -- no root has a link yet
-pub record Empty (m : Model) (head : List ℕ) : Type 0 where
-  pub none : (r : ℕ) → r < connector_count m → link_count m ≤ get_or head r 0
+pub record Empty (m : Model) (head : List (Option ℕ)) : Type 0 where
+  pub none : (r : ℕ) → r < connector_count m → get_or head r None ≡ None
 
--- k is the first link of root r from link i on
-pub record Leads (m : Model) (r i k : ℕ) : Type 0 where
-  pub above : i ≤ k
-  pub hits : k < link_count m → root_of m k ≡ root_at r
-  pub found : k < link_count m → each k (member m r) ≡ each i (member m r)
-  pub missing : link_count m ≤ k → each (link_count m) (member m r) ≡ each i (member m r)
+-- a link's number, or the number of links where there is none
+abbrev pub place : Model → Option ℕ → ℕ
+place m None = link_count m
+place m (Some k) = k
+
+-- o is the first link of root r from link i on, if there is one
+pub record Leads (m : Model) (r i : ℕ) (o : Option ℕ) : Type 0 where
+  pub hits : (k : ℕ) → o ≡ Some k → (i ≤ k) × (k < link_count m) × (root_of m k ≡ root_at r)
+  pub found : each (place m o) (member m r) ≡ each i (member m r)
 
 -- the lists have all links from i on
-pub record Linked (m : Model) (i : ℕ) (head next : List ℕ) : Type 0 where
-  pub heads : (r : ℕ) → r < connector_count m → Leads m r i (get_or head r 0)
-  pub nexts : (k r : ℕ) → i ≤ k → k < link_count m → root_of m k ≡ root_at r → Leads m r (k + 1) (get_or next k 0)
+pub record Linked (m : Model) (i : ℕ) (head next : List (Option ℕ)) : Type 0 where
+  pub heads : (r : ℕ) → r < connector_count m → Leads m r i (get_or head r None)
+  pub nexts : (k r : ℕ) → i ≤ k → k < link_count m → root_of m k ≡ root_at r → Leads m r (k + 1) (get_or next k None)
   pub room : connector_count m ≤ length head
   pub room' : link_count m ≤ length next
-
--- all links
-abbrev pub AllLinked : Model → Links → Type 0
-AllLinked m links = Linked m 0 links.head.now links.next.now
-
--- `head` has the first link of each root
-pub record Headed (m : Model) (head : List ℕ) : Type 0 where
-  pub each : (r : ℕ) → r < connector_count m → Leads m r 0 (get_or head r 0)
-  pub room : connector_count m ≤ length head
 
 -- the members are the cluster of r
 pub record Gathered (m : Model) (r : ℕ) (members : List ℕ) : Type 0 where

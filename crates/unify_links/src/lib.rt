@@ -5,19 +5,12 @@ ghost use Rattle.std.specs.Prelude.{◌≡◌, ◌+◌, ◌≤◌, ◌<◌, leng
 ghost use Rattle.oce_model.specs.Format.{most_connections, most_boundary_outputs};
 ghost use Rattle.oce_model.specs.Model.{model_of, connection, boundary_output, connector_count, connection_count, boundary_output_count};
 ghost use Rattle.unify.specs.Clusters.{is_root};
-ghost use Rattle.unify_links.specs.Links.{link_count, connection_root, output_root, root_of, target_of, Empty, Headed, Linked, AllLinked, Gathered};
+ghost use Rattle.unify_links.specs.Links.{link_count, connection_root, output_root, root_of, target_of, Empty, Linked, Gathered};
 
 use image_records::Image;
 use oce_model::ConnectorId;
+use std::marker::Model;
 use structural_degrees::InDegrees;
-
-// The links of each root in lists, in fixed memory: `head` has the first link of each root, `next` the one
-// behind each link. A number that is no link's ends a list.
-#[derive(Clone, Copy)]
-pub struct Links<'a> {
-    pub head: &'a [usize],
-    pub next: &'a [usize],
-}
 
 // How many links there are.
 pub fn link_count(image: &Image) -> usize
@@ -76,10 +69,11 @@ fn root_of(degrees: &InDegrees, k: usize) -> Option<ConnectorId>
 }
 
 // The slot that link k leads to.
-fn target_of(image: &Image, k: usize) -> usize
-    requires { (k < link_count (model_of image.now)) × (link_count (model_of image.now) ≤ most_connections + most_boundary_outputs) }
+fn target_of(image: &Image, k: u16) -> usize
+    requires { k < link_count (model_of image.now) }
     ensures { result ≡ target_of (model_of image.now) k }
 {
+    let k = k as usize;
     let connections = image.connection_count();
     if k < connections {
         image.connection(k).to.0 as usize
@@ -88,61 +82,97 @@ fn target_of(image: &Image, k: usize) -> usize
     }
 }
 
-// ---- the lists
+// ---- the lists: `head` has the first link of each root, `next` the one behind each link
 
 // Link k comes to the front of its root's list, if it has a root. The lists have all links behind it.
-fn link(degrees: &InDegrees, k: usize, head: &mut [usize], next: &mut [usize])
+fn link(degrees: &InDegrees, k: u16, head: &mut [Option<u16>], next: &mut [Option<u16>])
     requires { (k < link_count (model_of degrees.now)) × Linked (model_of degrees.now) (k + 1) head.old next.old }
     ensures { Linked (model_of degrees.now) k head.new next.new }
 {
-    if let Some(root) = root_of(degrees, k) {
-        next[k] = head[root.0 as usize];
-        head[root.0 as usize] = k;
+    if let Some(root) = root_of(degrees, k as usize) {
+        next[k as usize] = head[root.0 as usize].replace(k);
     }
 }
 
-// The lists of all links, from the last to the first. `head` holds no link's number at first.
-pub fn link_all<'a>(degrees: &InDegrees, head: &'a mut [usize], next: &'a mut [usize]) -> Links<'a>
+// The lists of all links, from the last to the first.
+fn link_all(degrees: &InDegrees, head: &mut [Option<u16>], next: &mut [Option<u16>])
     requires { Empty (model_of degrees.now) head.old
         × (connector_count (model_of degrees.now) ≤ length head.old) × (link_count (model_of degrees.now) ≤ length next.old) }
-    ensures { AllLinked (model_of degrees.now) result }
+    ensures { Linked (model_of degrees.now) 0 head.new next.new }
 {
     for k in (0..link_count(degrees.image())).rev() {
-        link(degrees, k, head, next);
+        link(degrees, k as u16, head, next);
     }
-    Links { head, next }
 }
 
-// ---- clusters
+// ---- an image with its links
 
-impl Links<'_> {
-    // A connector is a root: its list has a link.
-    pub fn is_root(self, image: &Image, root: ConnectorId) -> bool
-        requires { Headed (model_of image.now) self.head.now × (root.0 < connector_count (model_of image.now)) }
-        ensures { result ≡ is_root (model_of image.now) root.0 }
+// An image and the links of each root in lists, in fixed memory. Clauses see the image.
+#[derive(Drop)]
+pub struct Links<'a, 'r, 'i> {
+    image: &'r Image<'i, 'i>,
+    head: &'a [Option<u16>],
+    next: &'a [Option<u16>],
+}
+
+impl<'a, 'r, 'i> Model for Links<'a, 'r, 'i> {
+    ghost use Rattle.std.specs.Prelude.{ℕ, List};
+    ghost use Rattle.oce_model.specs.Model.{model_of};
+    ghost use Rattle.unify_links.specs.Links.{Linked};
+
+    ghost Value = { List ℕ };
+
+    ghost view = { λ l. l.image.now };
+
+    ghost invariant = { λ l. Linked (model_of l.image.now) 0 l.head.now l.next.now };
+}
+
+impl<'a, 'r, 'i> Links<'a, 'r, 'i> {
+    // The lists of all links of an image. `head` holds no link at first.
+    pub fn list(
+        degrees: &InDegrees<'_, 'r, 'i>,
+        head: &'a mut [Option<u16>],
+        next: &'a mut [Option<u16>],
+    ) -> Links<'a, 'r, 'i>
+        requires { Empty (model_of degrees.now) head.old
+            × (connector_count (model_of degrees.now) ≤ length head.old) × (link_count (model_of degrees.now) ≤ length next.old) }
+        ensures { result ≡ degrees.now }
     {
-        self.head[root.0 as usize] < link_count(image)
+        link_all(degrees, head, next);
+        Links {
+            image: degrees.image(),
+            head,
+            next,
+        }
+    }
+
+    // The image.
+    pub fn image(&self) -> &'r Image<'i, 'i>
+        ensures { result.now ≡ self.now }
+    {
+        self.image
+    }
+
+    // A connector is a root: its list has a link.
+    pub fn is_root(&self, root: ConnectorId) -> bool
+        requires { root.0 < connector_count (model_of self.now) }
+        ensures { result ≡ is_root (model_of self.now) root.0 }
+    {
+        self.head[root.0 as usize].is_some()
     }
 
     // The cluster of a root: the root, then the slots that its links lead to, in the order of its list.
-    pub fn gather<'m>(
-        self,
-        image: &Image,
-        root: ConnectorId,
-        members: &'m mut [usize],
-    ) -> &'m [usize]
-        requires { AllLinked (model_of image.now) self × (root.0 < connector_count (model_of image.now))
-            × (link_count (model_of image.now) < length members.old) }
-        ensures { Gathered (model_of image.now) root.0 result.now }
+    pub fn gather<'m>(&self, root: ConnectorId, members: &'m mut [usize]) -> &'m [usize]
+        requires { (root.0 < connector_count (model_of self.now)) × (link_count (model_of self.now) < length members.old) }
+        ensures { Gathered (model_of self.now) root.0 result.now }
     {
-        let links = link_count(image);
         members[0] = root.0 as usize;
         let mut c = 1;
-        let mut k = self.head[root.0 as usize];
-        while k < links {
-            members[c] = target_of(image, k);
+        let mut link = self.head[root.0 as usize];
+        while let Some(k) = link {
+            members[c] = target_of(self.image, k);
             c += 1;
-            k = self.next[k];
+            link = self.next[k as usize];
         }
         &members[..c]
     }

@@ -1,38 +1,32 @@
 // 6.8: roots whose range is crossed after all roots are filled (FORMAT 16).
 #![tactic(auto)]
 
-ghost use Rattle.std.specs.Prelude.{◌≡◌, ◌<◌, length};
+ghost use Rattle.std.specs.Prelude.{◌≡◌, ◌<◌};
 ghost use Rattle.oce_model.specs.Format.{most_connectors};
 ghost use Rattle.oce_model.specs.Model.{model_of, connector_count};
 ghost use Rattle.oce_diag.specs.Reporting.{Room, Puts};
 ghost use Rattle.unify.specs.Unify.{filled_slots, propagated_faults, propagated};
-ghost use Rattle.unify_slots.specs.Slots.{slot_count};
-ghost use Rattle.unify_links.specs.Links.{Headed};
+ghost use Rattle.unify_slots.specs.Slots.{filled};
 
 use crossed_ranges::{is_crossed, range_of};
-use image_records::Image;
 use oce_diag::{DiagCode, Report, error};
-use oce_model::{Attrs, ConnectorId};
+use oce_model::ConnectorId;
 use unify_cluster::subject;
 use unify_links::Links;
+use unify_slots::Slots;
 
 const RULE: u8 = 6;
 
 const CROSSED_DETAIL: u8 = 8;
 
 // The test of one connector, if it is a root.
-fn check_propagated_cluster(
-    image: &Image,
-    links: Links,
-    slots: &[Attrs],
-    root: ConnectorId,
-    report: &mut Report,
-)
-    requires { Headed (model_of image.now) links.head.now × (length slots.now ≡ slot_count (model_of image.now))
-        × (root.0 < connector_count (model_of image.now)) × Room 1 report.old }
-    ensures { Puts 1 (propagated_faults (model_of image.now) slots.now root.0) report.old report.new }
+fn check_propagated_cluster(links: &Links, slots: &Slots, root: ConnectorId, report: &mut Report)
+    requires { (slots.now ≡ filled links.now) × (root.0 < connector_count (model_of links.now)) × Room 1 report.old }
+    ensures { Puts 1 (propagated_faults (model_of links.now) (filled_slots (model_of links.now)) root.0) report.old report.new }
 {
-    if links.is_root(image, root) && is_crossed(range_of(image, &slots[root.0 as usize])) {
+    let image = links.image();
+    let slot = &slots.attrs()[root.0 as usize];
+    if links.is_root(root) && is_crossed(range_of(image, slot)) {
         report.put(error(
             DiagCode::CrossedBounds,
             RULE,
@@ -45,11 +39,11 @@ fn check_propagated_cluster(
 
 // All roots in turn, over the slots as rule 6 has filled them. The caller runs it where the whole list
 // holds no error.
-pub fn check_propagated_clusters(image: &Image, links: Links, slots: &[Attrs], report: &mut Report)
-    requires { Headed (model_of image.now) links.head.now × (slots.now ≡ filled_slots (model_of image.now)) × Room most_connectors report.old }
-    ensures { Puts (connector_count (model_of image.now)) (propagated (model_of image.now)) report.old report.new }
+pub fn check_propagated_clusters(links: &Links, slots: &Slots, report: &mut Report)
+    requires { (slots.now ≡ filled links.now) × Room most_connectors report.old }
+    ensures { Puts (connector_count (model_of links.now)) (propagated (model_of links.now)) report.old report.new }
 {
-    for r in 0..image.connector_count() as u32 {
-        check_propagated_cluster(image, links, slots, ConnectorId(r), report);
+    for r in 0..links.image().connector_count() as u32 {
+        check_propagated_cluster(links, slots, ConnectorId(r), report);
     }
 }

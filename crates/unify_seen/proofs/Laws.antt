@@ -1,6 +1,6 @@
 -- Laws of what the members of a cluster declare.
-use Prim.Native.Nat.{ℕ, zero, suc, ◌+◌, ◌/◌, ◌%◌, ◌^◌, ◌<◌}
-use native.Mathlib.Nat.{mod-lt, zero-div}
+use Prim.Native.Nat.{ℕ, zero, suc, ◌+◌, ◌/◌, ◌%◌, ◌^◌, ◌≤◌, ◌<◌}
+use native.Mathlib.Nat.{mod-lt}
 use native.Mathlib.Decide.{ℕ_discrete}
 use native.Mathlib.Omega.{arith}
 use mathlib.Core.Path.{◌≡◌, refl, sym, ap, ◌∙◌}
@@ -9,17 +9,18 @@ use mathlib.Core.List.{List, [], ◌∷◌}
 use Rattle.std.specs.Prelude.{None}
 use lib.Bits.{bit_or, or_shr, or_mod}
 use lib.Dec.{eqb}
-use lib.ListN.{length, get_or}
+use lib.ListN.{length, get_or, get_or-eq_default}
 use borrow.Author.Tests.{eqb-true, eqb-false, eq-eqb, ne_eqb}
 use Rattle.numbers.specs.Bytes.{bit}
 use Rattle.oce_model.specs.Format.{real_kind, integer_kind}
-use Rattle.oce_model.specs.Attributes.{declared_at, marked, num}
+use Rattle.oce_model.specs.Attributes.{declared_at, marked, no_attrs, num}
 use Rattle.oce_model.specs.declared.Attrs.{Attrs}
 use Rattle.unify.specs.Details.{kind_of, bit_of}
 use Rattle.unify.specs.Slots.{Slots, slot, value}
 use Rattle.unify.specs.Unify.{declarations}
 use Rattle.unify.specs.declared.Detail.{Detail}
 use Rattle.unify.proofs.Details.{kind_of-le}
+use Rattle.unify_slots.proofs.Laws.{bit-zero}
 use Rattle.unify_seen.specs.Seen.{Holds, TakenIn, Sees, shows}
 
 -- ---- bits
@@ -41,10 +42,6 @@ or-clear a b p e =
     let s : bit_or a b / 2 ^ p % 2 ≡ bit_or (a / 2 ^ p % 2) (b / 2 ^ p % 2) = ap (λ x. x % 2) (or_shr a b p) ∙ or_mod (a / 2 ^ p) (b / 2 ^ p) 1 in
     digit_or (a / 2 ^ p % 2) (b / 2 ^ p % 2) (mod-lt (a / 2 ^ p) (omega arith)) (mod-lt (b / 2 ^ p) (omega arith)) (ap (λ x. eqb x 1) (sym s) ∙ e)
 
-bit-zero : (p : ℕ) → bit 0 p ≡ false
-unfolding bit
-bit-zero p = rw (zero-div (2 ^ p))
-
 -- ---- one member
 
 pub taken-marks : (k kind marks b : ℕ) → TakenIn k kind marks b (bit_or b marks)
@@ -64,6 +61,14 @@ module _ {σ : Slots} {js : List ℕ} where
       → TakenIn real_kind (slot σ (get_or js n 0)).kind (slot σ (get_or js n 0)).marks real real'
       → TakenIn integer_kind (slot σ (get_or js n 0)).kind (slot σ (get_or js n 0)).marks integer integer' → n < length js → Sees σ js real' integer' (n + 1)
   sees-turn v t u h = record { within = omega arith; reals = holds-turn v.reals t; integers = holds-turn v.integers u }
+
+  -- where there is no slot, there are no marks
+  pub sees-none : {real integer n : ℕ} → Sees σ js real integer n → length σ ≤ get_or js n 0 → n < length js → Sees σ js real integer (n + 1)
+  unfolding slot no_attrs
+  sees-none {n = n} v o h = sees-turn v (none _ _) (none _ _) h
+    where
+      none : (k b : ℕ) → TakenIn k (slot σ (get_or js n 0)).kind (slot σ (get_or js n 0)).marks b b
+      none k b = record { old = λ p c. c; new = λ p f c. rw (get_or-eq_default σ no_attrs o) (bit-zero p) }
 
 -- ---- a detail
 

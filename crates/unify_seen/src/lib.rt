@@ -3,12 +3,12 @@
 #![tactic(auto)]
 
 ghost use Rattle.std.specs.Prelude.{◌≡◌, ◌&&◌, eqb, length};
-ghost use Rattle.unify_slots.specs.Slots.{Inside};
 ghost use Rattle.unify_seen.specs.Seen.{TakenIn, Sees, shows};
 
 use numbers::is_set;
 use oce_model::{Attrs, Kind};
 use unify::Detail;
+use unify_slots::Slots;
 
 // The marks of all Real members together, and those of all Integer members.
 #[derive(Clone, Copy, PartialEq, Eq, Debug)]
@@ -25,16 +25,17 @@ fn take_in(had: u8, wanted: u8, a: &Attrs) -> u8
 }
 
 // What the members declare.
-pub fn seen_in(slots: &[Attrs], members: &[usize]) -> Seen
-    requires { Inside (length slots.now) members.now }
-    ensures { Sees slots.now members.now result.real result.integer (length members.now) }
+pub fn seen_in(slots: &Slots, members: &[usize]) -> Seen
+    ensures { Sees slots.now.attrs members.now result.real result.integer (length members.now) }
 {
+    let attrs = slots.attrs();
     let mut real = 0;
     let mut integer = 0;
     for j in members {
-        let a = &slots[*j];
-        real = take_in(real, Kind::Real as u8, a);
-        integer = take_in(integer, Kind::Integer as u8, a);
+        if let Some(a) = attrs.get(*j) {
+            real = take_in(real, Kind::Real as u8, a);
+            integer = take_in(integer, Kind::Integer as u8, a);
+        }
     }
     Seen { real, integer }
 }

@@ -7,7 +7,7 @@ use mathlib.Core.Bool.{Bool, true, false, cond, not, ◌&&◌}
 use mathlib.Core.List.{List, [], ◌∷◌}
 use Rattle.std.specs.Prelude.{Option, Some, None, Result, Ok, Err, is_err}
 use lib.ListN.{length, length-drop, get_or, set, take, drop, drop_of_length-le}
-use lib.Seq.{drop-cons, get_or-drop, take_all}
+use lib.Seq.{drop-cons, take_all}
 use lib.Dec.{eqb}
 use Rattle.base.specs.Lists.{all, same}
 use Rattle.oce_model.specs.Model.{model_of, text}
@@ -16,7 +16,6 @@ use Rattle.unify.specs.Slots.{Slots, slot, value, put, key, agree}
 use Rattle.unify.specs.Unify.{cons?, declarations, put_members, settle, fill, conflict}
 use Rattle.unify.specs.declared.Detail.{Detail}
 use Rattle.unify_settle.specs.Settle.{agreed, disagreed}
-use Rattle.unify_slots.specs.Slots.{Inside}
 use Rattle.unify_settle.specs.declared.Conflict.{Conflict}
 
 -- ---- agreement
@@ -49,18 +48,15 @@ declarations-none d σ = refl
 
 -- ---- the first that is declared
 
-inside-drop : (n : ℕ) (js : List ℕ) (i : ℕ) → Inside n js → Inside n (drop i js)
-inside-drop n js i v = record { each = λ k h. rw (get_or-drop i js k 0) (v.each (i + k) (omega (arith, length-drop i js))) }
-
 module _ (d : Detail) (σ : Slots) (js : List ℕ) (i : ℕ) (w : declarations d σ js ≡ declarations d σ (drop i js)) {x : Option ℕ} where
   pub first-next : i < length js → x ≡ value d (slot σ (get_or js i 0)) → x ≡ None → declarations d σ js ≡ declarations d σ (drop (i + 1) js)
   first-next h ex e = w ∙ rw (declarations-rest d σ js i h, ← ex, e)
 
-  pub first-found : {v : ℕ} → i < length js → x ≡ value d (slot σ (get_or js i 0)) → x ≡ Some v → Inside (length σ) js
-      → let behind = take (length js - (i + 1)) (drop (i + 1) js) in (declarations d σ js ≡ v ∷ declarations d σ behind) × Inside (length σ) behind
-  first-found h ex e y =
+  pub first-found : {v : ℕ} → i < length js → x ≡ value d (slot σ (get_or js i 0)) → x ≡ Some v
+      → declarations d σ js ≡ v ∷ declarations d σ (take (length js - (i + 1)) (drop (i + 1) js))
+  first-found h ex e =
       let q : take (length js - (i + 1)) (drop (i + 1) js) ≡ drop (i + 1) js = take_all (length js - (i + 1)) (drop (i + 1) js) (omega (arith, length-drop (i + 1) js)) in
-      rw q (w ∙ rw (declarations-rest d σ js i h, ← ex, e), inside-drop (length σ) js (i + 1) y)
+      rw q (w ∙ rw (declarations-rest d σ js i h, ← ex, e))
 
 pub first-none : (d : Detail) (σ : Slots) (js : List ℕ) (i : ℕ) → declarations d σ js ≡ declarations d σ (drop i js) → length js ≤ i → declarations d σ js ≡ []
 first-none d σ js i w h = w ∙ rw (drop_of_length-le js h) (declarations-none d σ)

@@ -1,17 +1,16 @@
 -- What the code's steps give for one detail of rule 6 over the members of one cluster (FORMAT 16).
-use Rattle.std.specs.Prelude.{ℕ, ◌≡◌, cond, List, [], ◌∷◌, length, Option, Some, None, Result, Ok, Err}
+use Rattle.std.specs.Prelude.{ℕ, ◌≡◌, cond, List, [], ◌∷◌, Option, Some, None, Result, Ok, Err}
 use Rattle.base.specs.Lists.{all}
 use Rattle.unify.specs.Slots.{Slots, agree}
 use Rattle.unify.specs.Unify.{declarations}
 use Rattle.unify.specs.declared.Detail.{Detail}
-use Rattle.unify_slots.specs.Slots.{Inside}
 use Rattle.unify_settle.specs.declared.Conflict.{Conflict}
 use Rattle.unify_settle.specs.declared.First.{First}
 
 -- the first value that members declare, and the members behind
 abbrev pub FirstOf : Detail → Slots → List ℕ → Option First → Type 0
 FirstOf d σ js None = declarations d σ js ≡ []
-FirstOf d σ js (Some first) = (declarations d σ js ≡ first.value ∷ declarations d σ first.rest.now) × Inside (length σ) first.rest.now
+FirstOf d σ js (Some first) = declarations d σ js ≡ first.value ∷ declarations d σ first.rest.now
 
 abbrev pub disagreed : Result (Option ℕ) Conflict
 disagreed = Err (record {})

@@ -1,29 +1,27 @@
 // One detail of rule 6 over the members of one cluster (FORMAT 16): what is declared, whether it all agrees, fill.
 #![tactic(auto)]
 
-ghost use Rattle.std.specs.Prelude.{◌≡◌, length, is_err};
+ghost use Rattle.std.specs.Prelude.{◌≡◌, is_err};
 ghost use Rattle.base.specs.Lists.{all};
 ghost use Rattle.oce_model.specs.Model.{model_of};
 ghost use Rattle.unify.specs.Slots.{agree};
 ghost use Rattle.unify.specs.Unify.{declarations, conflict, put_members, fill};
-ghost use Rattle.unify_slots.specs.Slots.{Inside};
+ghost use Rattle.unify_slots.specs.Slots.{with_attrs};
 ghost use Rattle.unify_settle.specs.Settle.{FirstOf, agreed};
 
-use image_records::Image;
-use oce_model::Attrs;
 use unify::Detail;
-use unify_slots::{declared, put};
+use unify_slots::Slots;
 
 // Not all that is declared for a detail agrees.
 #[derive(Clone, Copy, PartialEq, Eq, Debug)]
 pub struct Conflict;
 
 // The Rust's `AttrVal::same`: texts by bytes, ends by their 64 bits.
-fn agrees(image: &Image, detail: Detail, u: u64, v: u64) -> bool
-    ensures { result ≡ agree (model_of image.now).texts detail u v }
+fn agrees(slots: &Slots, detail: Detail, u: u64, v: u64) -> bool
+    ensures { result ≡ agree (model_of slots.now.image).texts detail u v }
 {
     if detail.is_text() {
-        image.same_text(u as usize, v as usize)
+        slots.image().same_text(u as usize, v as usize)
     } else {
         u == v
     }
@@ -37,12 +35,11 @@ struct First<'a> {
 }
 
 // The first value that the members declare for a detail, if any of them does.
-fn first_declared<'a>(slots: &[Attrs], members: &'a [usize], detail: Detail) -> Option<First<'a>>
-    requires { Inside (length slots.now) members.now }
-    ensures { FirstOf detail slots.now members.now result }
+fn first_declared<'a>(slots: &Slots, members: &'a [usize], detail: Detail) -> Option<First<'a>>
+    ensures { FirstOf detail slots.now.attrs members.now result }
 {
     for (i, j) in members.iter().enumerate() {
-        if let Some(value) = declared(&slots[*j], detail) {
+        if let Some(value) = slots.declared(*j, detail) {
             return Some(First {
                 value,
                 rest: &members[i + 1..],
@@ -55,13 +52,12 @@ fn first_declared<'a>(slots: &[Attrs], members: &'a [usize], detail: Detail) -> 
 // All that the members declare agrees with v. Inlined: clusters have few members, so that a call for each detail costs
 // as much as its work.
 #[inline(always)]
-fn all_agree(image: &Image, slots: &[Attrs], members: &[usize], detail: Detail, v: u64) -> bool
-    requires { Inside (length slots.now) members.now }
-    ensures { result ≡ all (agree (model_of image.now).texts detail v) (declarations detail slots.now members.now) }
+fn all_agree(slots: &Slots, members: &[usize], detail: Detail, v: u64) -> bool
+    ensures { result ≡ all (agree (model_of slots.now.image).texts detail v) (declarations detail slots.now.attrs members.now) }
 {
     for j in members {
-        if let Some(u) = declared(&slots[*j], detail) {
-            if !agrees(image, detail, v, u) {
+        if let Some(u) = slots.declared(*j, detail) {
+            if !agrees(slots, detail, v, u) {
                 return false;
             }
         }
@@ -71,19 +67,13 @@ fn all_agree(image: &Image, slots: &[Attrs], members: &[usize], detail: Detail, 
 
 // The first value that the members declare for a detail, if all that they declare agrees with it.
 #[inline(always)]
-fn agreed(
-    image: &Image,
-    slots: &[Attrs],
-    members: &[usize],
-    detail: Detail,
-) -> Result<Option<u64>, Conflict>
-    requires { Inside (length slots.now) members.now }
-    ensures { result ≡ agreed (model_of image.now).texts detail (declarations detail slots.now members.now) }
+fn agreed(slots: &Slots, members: &[usize], detail: Detail) -> Result<Option<u64>, Conflict>
+    ensures { result ≡ agreed (model_of slots.now.image).texts detail (declarations detail slots.now.attrs members.now) }
 {
     match first_declared(slots, members, detail) {
         None => Ok(None),
         Some(first) => {
-            if all_agree(image, slots, first.rest, detail, first.value) {
+            if all_agree(slots, first.rest, detail, first.value) {
                 Ok(Some(first.value))
             } else {
                 Err(Conflict)
@@ -93,36 +83,32 @@ fn agreed(
 }
 
 // Each unset member takes v.
-fn put_members(slots: &mut [Attrs], members: &[usize], detail: Detail, v: u64)
-    requires { Inside (length slots.old) members.now }
-    ensures { slots.new ≡ put_members detail v members.now slots.old }
+fn put_members(slots: &mut Slots, members: &[usize], detail: Detail, v: u64)
+    ensures { slots.new ≡ with_attrs slots.old (put_members detail v members.now slots.old.attrs) }
 {
     for j in members {
-        put(&mut slots[*j], detail, v);
+        slots.put(*j, detail, v);
     }
 }
 
 // The Rust's `decide_and_apply`: one detail over the members of a cluster, which are filled if they agree.
 pub fn decide_and_apply(
-    image: &Image,
-    slots: &mut [Attrs],
+    slots: &mut Slots,
     members: &[usize],
     detail: Detail,
 ) -> Result<(), Conflict>
-    requires { Inside (length slots.old) members.now }
-    ensures filled { slots.new ≡ fill (model_of image.now).texts members.now detail slots.old }
-    ensures told { is_err result ≡ conflict (model_of image.now).texts detail (declarations detail slots.old members.now) }
+    ensures filled { slots.new ≡ with_attrs slots.old (fill (model_of slots.old.image).texts members.now detail slots.old.attrs) }
+    ensures told { is_err result ≡ conflict (model_of slots.old.image).texts detail (declarations detail slots.old.attrs members.now) }
 {
-    if let Some(v) = agreed(image, slots, members, detail)? {
+    if let Some(v) = agreed(slots, members, detail)? {
         put_members(slots, members, detail, v);
     }
     Ok(())
 }
 
 // The members declare values for a detail that don't all agree: what `warn_display_unit_divergence` asks.
-pub fn diverges(image: &Image, slots: &[Attrs], members: &[usize], detail: Detail) -> bool
-    requires { Inside (length slots.now) members.now }
-    ensures { result ≡ conflict (model_of image.now).texts detail (declarations detail slots.now members.now) }
+pub fn diverges(slots: &Slots, members: &[usize], detail: Detail) -> bool
+    ensures { result ≡ conflict (model_of slots.now.image).texts detail (declarations detail slots.now.attrs members.now) }
 {
-    agreed(image, slots, members, detail).is_err()
+    agreed(slots, members, detail).is_err()
 }

@@ -1,11 +1,13 @@
 -- Laws of slots, by value.
 use Prim.Native.Nat.{ℕ, zero, suc, ◌+◌, ◌*◌, ◌%◌, ◌^◌, ◌≤◌, ◌<◌}
 use native.Mathlib.Numerals.{add-one}
+use native.Mathlib.Nat.{zero-div}
 use native.Mathlib.Omega.{arith}
 use mathlib.Core.Path.{◌≡◌, refl, sym, ◌∙◌}
-use mathlib.Core.Bool.{Bool, true, false}
+use mathlib.Core.Bool.{Bool, true, false, cond}
+use mathlib.Core.List.{[]}
 use Rattle.std.specs.Prelude.{Some, None}
-use lib.ListN.{length, set, take}
+use lib.ListN.{length, get_or, get_or-eq_default, set, take}
 use lib.Seq.{take-suc, take-suc-set, take_all}
 use lib.Dec.{eqb}
 use mir.Syntax.{w8}
@@ -13,14 +15,14 @@ use mir.Val.{Fits}
 use borrow.Author.Tests.{eq-eqb, ne_eqb}
 use Rattle.numbers.specs.Bytes.{bit}
 use Rattle.numbers.proofs.Bits.{mark-fits}
-use Rattle.oce_model.specs.Attributes.{no_attrs, num, declared_at, declare_at}
+use Rattle.oce_model.specs.Attributes.{no_attrs, num, declared_at, declare_at, marked}
 use Rattle.oce_model.specs.declared.Attrs.{Attrs}
 use Rattle.oce_model.specs.Model.{Model, connector, boundary_output, connector_count, boundary_output_count}
 use Rattle.unify.specs.Details.{kind_of, bit_of}
 use Rattle.unify.specs.Slots.{Slots, slots_of, slot, value, put}
 use Rattle.unify.specs.declared.Detail.{Detail}
 use Rattle.unify.proofs.Slots.{slot-connector, slot-out, slots_length}
-use Rattle.unify_slots.specs.Slots.{slot_count}
+use Rattle.unify_slots.specs.Slots.{slot_count, SlotTable, with_attrs}
 
 -- a bit's weight within a byte
 weigh : (p : ℕ) → p < 6 → 1 * 2 ^ p % 256 ≡ 2 ^ p
@@ -31,6 +33,26 @@ weigh (suc (suc (suc zero))) h = refl
 weigh (suc (suc (suc (suc zero)))) h = refl
 weigh (suc (suc (suc (suc (suc zero))))) h = refl
 weigh (suc (suc (suc (suc (suc (suc p)))))) h = absurd (omega arith)
+
+-- ---- tables
+
+pub table-is : (t t' : SlotTable) {σ : Slots} → t'.attrs ≡ σ → t'.image ≡ t.image → t' ≡ with_attrs t σ
+table-is t t' e i = rw (← e, ← i)
+
+-- ---- no slot
+
+pub bit-zero : (p : ℕ) → bit 0 p ≡ false
+unfolding bit
+bit-zero p = rw (zero-div (2 ^ p))
+
+-- where there is no slot, nothing is declared
+pub declared-outside : (d : Detail) (σ : Slots) (j : ℕ) → length σ ≤ j → None ≡ value d (slot σ j)
+unfolding value declared_at slot no_attrs
+declared-outside d σ j h = rw (get_or-eq_default σ no_attrs h) (arm (eqb 0 (kind_of d)))
+  where
+    arm : (b : Bool) → None ≡ cond b (marked (bit 0 (bit_of d)) (get_or {A = ℕ} [] (bit_of d) 0)) None
+    arm true = rw (bit-zero (bit_of d))
+    arm false = refl
 
 -- ---- one slot, by its kind and its mark for a detail
 

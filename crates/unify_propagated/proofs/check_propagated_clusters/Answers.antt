@@ -1,24 +1,26 @@
 -- `unify_propagated::check_propagated_clusters` meets its contract.
-use Rattle.std.proofs.Common.{arith}
+use Rattle.std.proofs.Common.{◌≡◌, ◌∙◌, ap, arith}
 use Rattle.oce_model.specs.Format.{most_connectors}
 use Rattle.oce_model.specs.Model.{model_of, connector_count}
 use Rattle.oce_diag.proofs.Reporting.{turns-start, turns-next, turns-room}
-use Rattle.unify_propagated.proofs.Laws.{filled-count, propagated-all}
+use Rattle.unify_propagated.proofs.Laws.{propagated-all}
 use Rattle.unify_propagated.proofs.check_propagated_clusters.Goals as goal
 
 pub loop-r-init : goal.loop-r-init
 loop-r-init c = turns-start
 
 pub check_propagated_cluster-requires : goal.check_propagated_cluster-requires
-check_propagated_cluster-requires c = (
-  c.requires.0,
-  filled-count (model_of c.args.image.now) c.requires.1,
-  omega arith,
-  turns-room c.loop-r.invariant (connector_count (model_of c.args.image.now)) most_connectors most_connectors c.requires.2 (omega arith) (omega arith) (omega arith),
-)
+check_propagated_cluster-requires c =
+    let n = rw c.image.ensures at c.connector_count-r-end.ensures in (
+      c.requires.0,
+      omega arith,
+      turns-room c.loop-r.invariant (connector_count (model_of c.args.links.now)) most_connectors most_connectors c.requires.1 (omega arith) (omega arith) (omega arith),
+    )
 
 pub loop-r-preserved : goal.loop-r-preserved
 loop-r-preserved c = turns-next c.loop-r.invariant c.check_propagated_cluster.ensures
 
 pub returns : goal.returns
-returns c = propagated-all (model_of c.args.image.now) c.requires.1 c.connector_count-r-end.ensures.0 c.loop-r.invariant (omega arith)
+returns c =
+    let n = rw c.image.ensures at c.connector_count-r-end.ensures in
+    propagated-all (model_of c.args.links.now) n.0 c.loop-r.invariant (omega arith)

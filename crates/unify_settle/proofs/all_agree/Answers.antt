@@ -1,22 +1,18 @@
 -- `unify_settle::all_agree` meets its contract.
-use Rattle.oce_model.specs.Attributes.{no_attrs}
 use Rattle.oce_model.specs.Model.{model_of}
-use Rattle.unify.specs.Slots.{slot}
 use Rattle.unify_settle.proofs.Laws.{agree-nothing, agree-next, agree-not, agree-all}
 use Rattle.unify_settle.proofs.all_agree.Goals as goal
 use Rattle.unify_settle.proofs.all_agree.Goals.{in-Some+else-not-agrees, in_default}
 
 pub returns-then-not-agrees : goal.returns-then-not-agrees
-unfolding slot no_attrs
 returns-then-not-agrees c =
-    agree-not (model_of c.args.image.now).texts c.args.detail c.args.v c.args.slots.now c.args.members.now c.loop-j.j-index c.loop-j.invariant c.loop-j-test.true
+    agree-not (model_of c.args.slots.now.image).texts c.args.detail c.args.v c.args.slots.now.attrs c.args.members.now c.loop-j.j-index c.loop-j.invariant c.loop-j-test.true
     c.declared.ensures c.in-Some.is c.agrees.ensures c.if-not-agrees.true
 
 pub loop-j-preserved : goal.loop-j-preserved
-unfolding slot no_attrs
 loop-j-preserved c =
-    let ts = (model_of c.args.image.now).texts in
-    let σ = c.args.slots.now in
+    let ts = (model_of c.args.slots.now.image).texts in
+    let σ = c.args.slots.now.attrs in
     let js = c.args.members.now in
     elim c.match-declared.branch [
       | in-Some+else-not-agrees w ↦
@@ -25,4 +21,4 @@ loop-j-preserved c =
     ]
 
 pub returns : goal.returns
-returns c = agree-all (model_of c.args.image.now).texts c.args.detail c.args.v c.args.slots.now c.args.members.now c.loop-j.j-index c.loop-j.invariant c.loop-j-test.false
+returns c = agree-all (model_of c.args.slots.now.image).texts c.args.detail c.args.v c.args.slots.now.attrs c.args.members.now c.loop-j.j-index c.loop-j.invariant c.loop-j-test.false

@@ -8,5 +8,5 @@ use Rattle.unify_settle.proofs.all_agree.Given as goal
 
 abbrev pub invariant-loop-j : goal.invariant-loop-j
 invariant-loop-j l =
-    all (agree (model_of l.image).texts l.detail l.v) (declarations l.detail l.slots l.members)
-    ≡ all (agree (model_of l.image).texts l.detail l.v) (declarations l.detail l.slots (drop l.j-index l.members))
+    all (agree (model_of l.slots.image).texts l.detail l.v) (declarations l.detail l.slots.attrs l.members)
+    ≡ all (agree (model_of l.slots.image).texts l.detail l.v) (declarations l.detail l.slots.attrs (drop l.j-index l.members))

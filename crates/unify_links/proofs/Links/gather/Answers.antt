@@ -1,16 +1,25 @@
 -- `unify_links::Links::gather` meets its contract.
-use Rattle.oce_model.specs.Model.{model_of}
-use Rattle.unify_links.proofs.Laws.{gathers-start, gathers-turn, gathers-less, gathers-done}
+use Rattle.std.proofs.Common.{arith}
+use Rattle.unify_links.proofs.Laws.{gathers-start, gathers-link, gathers-room, gathers-turn, gathers-less, gathers-done}
 use Rattle.unify_links.proofs.Links.gather.Goals as goal
 
-pub loop-k-init : goal.loop-k-init
-loop-k-init c = gathers-start (model_of c.args.image.now) c.args.members.now c.requires.0 c.requires.1 c.requires.2 c.link_count-links.ensures.counted
+pub loop-link-init : goal.loop-link-init
+loop-link-init c = gathers-start _ c.args.members.now c.self.invariant (rw c.self.view_is c.requires.0) (rw c.self.view_is c.requires.1)
 
-pub loop-k-smaller : goal.loop-k-smaller
-loop-k-smaller c = gathers-less c.loop-k.invariant c.requires.0 c.loop-k-test.true
+pub target_of-requires : goal.target_of-requires
+target_of-requires c = gathers-link c.loop-link.invariant c.in-Some.is
 
-pub loop-k-preserved : goal.loop-k-preserved
-loop-k-preserved c = gathers-turn c.loop-k.invariant c.target_of.ensures c.requires.0 c.loop-k-test.true
+pub bounds-members-c : goal.bounds-members-c
+bounds-members-c c = gathers-room c.loop-link.invariant c.in-Some.is
+
+pub bounds-self-inside-k : goal.bounds-self-inside-k
+bounds-self-inside-k c = let k = gathers-link c.loop-link.invariant c.in-Some.is in omega (arith, c.self.invariant.room')
+
+pub loop-link-smaller : goal.loop-link-smaller
+loop-link-smaller c = gathers-less c.loop-link.invariant c.in-Some.is c.self.invariant
+
+pub loop-link-preserved : goal.loop-link-preserved
+loop-link-preserved c = gathers-turn c.loop-link.invariant c.in-Some.is c.target_of.ensures c.self.invariant
 
 pub returns : goal.returns
-returns c = gathers-done c.loop-k.invariant c.loop-k-test.false
+returns c = rw (← c.self.view_is) (gathers-done c.loop-link.invariant c.in_default.is)
