@@ -12,14 +12,13 @@ use borrow.Rule.Slice.PartMut.{put_mid, mid_of}
 use Rattle.base.specs.Buffers.{patch, starts_with}
 use Rattle.base.proofs.Buffers.{patch-reversed, starts_with-none, starts_with-patch, starts_with-length}
 use Rattle.base.proofs.Parts.{part_room, part-patched, part-behind}
-use Rattle.oce_model.specs.Model.{model_of}
 use Rattle.oce_model.specs.Refusals.{refusal}
 use Rattle.oce_model.specs.declared.Refusal.{Refusal}
 use Rattle.oce_diag.specs.Encoding.{diagnostic_size}
 use Rattle.oce_diag.specs.declared.Counted.{Counted}
 use Rattle.oce_diag.proofs.Encoding.{report_bytes-length}
 use Rattle.oce_diag.proofs.Putting.{put-errors, put-warnings, put-room}
-use Rattle.unify.specs.Slots.{Slots}
+use Rattle.unify_slots.specs.Slots.{SlotTable}
 use Rattle.outcome.specs.Answer.{Answer, report_of}
 use Rattle.rules.specs.Ran.{Ran}
 use Rattle.batch.specs.Output.{summary_size, count_of, size_of, summary_of, image_report, summary_field, summary_bytes, image_output}
@@ -32,7 +31,7 @@ counted-is : (c : Counted) {e w : ℕ} → c.errors ≡ e → c.warnings ≡ w �
 counted-is c h k = rw (← h, ← k) refl
 
 -- counted, and written if it fits
-pub summed-counted : {s b b' : List ℕ} {σ : Slots} {c : Counted} → refusal s ≡ None → Ran (model_of s) σ b b' c → Summed s b b' (Ok c)
+pub summed-counted : {s b b' : List ℕ} {t : SlotTable} {c : Counted} → refusal s ≡ None → Ran s t b b' c → Summed s b b' (Ok c)
 unfolding summary_of image_report report_of
 summed-counted {s} {c = c} h q = record {
   summarized = record { is = rw h (ap Ok (counted-is c (put-errors q.put refl) (put-warnings q.put refl))); few = omega (arith, q.few) };

@@ -1,40 +1,38 @@
 // One image of a batch: what its check gives, and its part of the output.
 #![tactic(auto)]
 
-ghost use Rattle.std.specs.Prelude.{◌≡◌, ◌+◌, ◌≤◌, length, None, Ok};
+ghost use Rattle.std.specs.Prelude.{◌≡◌, ◌+◌, ◌≤◌, length, Ok};
 ghost use Rattle.base.specs.Buffers.{patch, starts_with};
 ghost use Rattle.oce_model.specs.Model.{model_of};
-ghost use Rattle.oce_model.specs.Refusals.{refusal};
 ghost use Rattle.unify_slots.specs.Slots.{slot_count};
 ghost use Rattle.batch.specs.Output.{summary_size, summary_of, summary_field, summary_bytes, image_output};
 ghost use Rattle.batch_image.specs.Summarized.{Summed, Summarized, Placed};
 
 use base::copy_at;
 use batch::{NO_REFUSAL, NONE_COUNTED, SUMMARY_LENGTH, SUMMARY_SIZE, SUMMARY_TAG, count_of};
-use image_records::Image;
+use image_records::{Image, Tables};
 use numbers::BYTE_RANGE_U32;
 use oce_diag::Counted;
-use oce_model::{MOST_BLOCKS, MOST_TEXTS, Refusal};
+use oce_model::Refusal;
 use oce_validate::{FEW_SLOTS, MOST_SLOTS};
 use outcome::Answer;
 use rules::run;
-use unify_slots::{NO_ATTRS, slot_count};
+use unify_slots::{NO_ATTRS, Slots, slot_count};
 
 // ---- the check
 
 // Runs all rules over a report, with a table for so many slots.
 fn run_in<const SLOTS: usize>(image: &Image, report: &mut [u8]) -> Counted
-    requires { (refusal image.now ≡ None) × (slot_count (model_of image.now) ≤ SLOTS) × (SLOTS ≤ MOST_SLOTS) }
+    requires { (slot_count (model_of image.now) ≤ SLOTS) × (SLOTS ≤ MOST_SLOTS) }
     ensures { Summed image.now report.old report.new (Ok result) }
 {
+    let _ = image.bytes();
     let mut table = [NO_ATTRS; SLOTS];
-    let slots = slot_count(image);
-    run(image, &mut table[..slots], report)
+    run(&mut Slots::of(image, &mut table), report)
 }
 
 // An accepted image.
 fn run_accepted(image: &Image, report: &mut [u8]) -> Counted
-    requires { refusal image.now ≡ None }
     ensures { Summed image.now report.old report.new (Ok result) }
 {
     if slot_count(image) <= FEW_SLOTS {
@@ -48,9 +46,8 @@ fn run_accepted(image: &Image, report: &mut [u8]) -> Counted
 fn summarize_into(image: &[u8], report: &mut [u8]) -> Answer
     ensures { Summed image.now report.old report.new result }
 {
-    let mut texts = [0usize; MOST_TEXTS];
-    let mut blocks = [0usize; MOST_BLOCKS];
-    let image = Image::accept(image, &mut texts, &mut blocks)?;
+    let mut tables = Tables::EMPTY;
+    let image = Image::accept(image, &mut tables)?;
     Ok(run_accepted(&image, report))
 }
 

@@ -92,8 +92,8 @@ module _ {s : List ℕ} {l : Layout} (h : Laid s l) where
         go : j < connector_slots s → start_of connector_tag s + connector_size * j + connector_attrs ≡ offset s j
         go k = sym (offset-connector s j k ∙ ap (λ n. n + connector_attrs) (nth-at s acc connector_tag connector_size j (omega arith) (omega arith) refl k))
 
-    pub connector-near : j < l.connectors.count → l.connectors.start + connector_size * j + connector_attrs ≤ longest_image
-    connector-near k = near (connector-offset refl k) (omega (arith, connectors-counted h))
+    pub connector-near : j < l.connectors.count → l.connectors.start + connector_size * j ≤ longest_image
+    connector-near k = omega (arith, near (connector-offset refl k) (omega (arith, connectors-counted h)))
 
     -- of a boundary output
     pub output-offset : {at : ℕ} → at ≡ l.outputs.start + boundary_output_size * (j - l.connectors.count) + boundary_output_attrs → l.connectors.count ≤ j → j < slot_count (model_of s) → at ≡ offset s j
@@ -107,8 +107,8 @@ module _ {s : List ℕ} {l : Layout} (h : Laid s l) where
             let e : connector_slots s + i ≡ j = omega arith in
             sym (ap (offset s) (sym e) ∙ offset-out s i q ∙ ap (λ n. n + boundary_output_attrs) (nth-at s acc boundary_output_tag boundary_output_size i (omega arith) (omega arith) refl q))
 
-    pub output-near : l.connectors.count ≤ j → j < slot_count (model_of s) → l.outputs.start + boundary_output_size * (j - l.connectors.count) + boundary_output_attrs ≤ longest_image
-    output-near k b = near (output-offset refl k b) b
+    pub output-near : l.connectors.count ≤ j → j < slot_count (model_of s) → l.outputs.start + boundary_output_size * (j - l.connectors.count) ≤ longest_image
+    output-near k b = omega (arith, near (output-offset refl k b) b)
 
 -- ---- the loop
 

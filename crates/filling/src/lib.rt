@@ -1,10 +1,10 @@
 // The filled image (FORMAT 17): the attributes of slots, written over those of the image.
 #![tactic(auto)]
 
-ghost use Rattle.std.specs.Prelude.{◌≡◌, ℕ, ◌+◌, ◌*◌, ◌≤◌, ◌<◌, length, get_or, slice_index};
+ghost use Rattle.std.specs.Prelude.{◌≡◌, ℕ, ◌+◌, ◌≤◌, ◌<◌, length, get_or, slice_index};
 ghost use Rattle.base.specs.Buffers.{patch, starts_with};
 ghost use Rattle.numbers.specs.Bytes.{byte_range};
-ghost use Rattle.oce_model.specs.Format.{attrs_length, longest_image};
+ghost use Rattle.oce_model.specs.Format.{attrs_length};
 ghost use Rattle.oce_model.specs.Attributes.{attrs_bytes};
 ghost use Rattle.oce_model.specs.Model.{model_of};
 ghost use Rattle.unify_slots.specs.Slots.{slot_count};
@@ -12,7 +12,6 @@ ghost use Rattle.outcome.specs.Filled.{slot_offsets, with_slots};
 ghost use Rattle.filling.specs.Parts.{lead_bytes, text_bytes, end_bytes};
 
 use base::copy_at;
-use image_accept::Section;
 use image_records::Image;
 use numbers::{LittleEndian, SHORT_RANGE_U64};
 use oce_model::{
@@ -20,6 +19,7 @@ use oce_model::{
     CONNECTOR_ATTRS, CONNECTOR_SIZE, DISPLAY_UNIT_BIT, MAX_BIT, MIN_BIT, NOMINAL_BIT, QUANTITY_BIT,
     UNIT_BIT,
 };
+use unify_slots::Slots;
 
 // Kind and marks of a slot.
 fn store_lead(filled: &mut [u8], at: usize, slot: &Attrs)
@@ -62,14 +62,6 @@ fn store_slot(filled: &mut [u8], at: usize, slot: &Attrs)
     store_ends(filled, at + ATTRS_MIN_AT, slot);
 }
 
-// Where the attributes of record i of a section stand, by the size of its records and what stands before.
-fn attrs_at(section: Section, size: usize, i: usize, lead: usize) -> usize
-    requires { section.start + size * i + lead ≤ longest_image }
-    ensures { result ≡ section.start + size * i + lead }
-{
-    section.start + size * i + lead
-}
-
 // Where the attributes of slot j stand.
 pub fn slot_offset(image: &Image, j: usize) -> usize
     requires { j < slot_count (model_of image.now) }
@@ -78,14 +70,10 @@ pub fn slot_offset(image: &Image, j: usize) -> usize
     let layout = image.layout();
     let connectors = layout.connectors;
     if j < connectors.count {
-        attrs_at(connectors, CONNECTOR_SIZE, j, CONNECTOR_ATTRS)
+        connectors.record_at(CONNECTOR_SIZE, j) + CONNECTOR_ATTRS
     } else {
-        attrs_at(
-            layout.outputs,
-            BOUNDARY_OUTPUT_SIZE,
-            j - connectors.count,
-            BOUNDARY_OUTPUT_ATTRS,
-        )
+        let i = j - connectors.count;
+        layout.outputs.record_at(BOUNDARY_OUTPUT_SIZE, i) + BOUNDARY_OUTPUT_ATTRS
     }
 }
 
@@ -98,13 +86,15 @@ pub fn copy_image(image: &[u8], filled: &mut [u8])
     copy_at(filled, 0, image);
 }
 
-// The image with the attributes of slots, all it has.
-pub fn fill_image(image: &Image, slots: &[Attrs], filled: &mut [u8])
-    requires { (length slots.now ≡ slot_count (model_of image.now)) × (length image.now ≤ length filled.old) }
-    ensures { filled.new ≡ starts_with (with_slots image.now slots.now) filled.old }
+// An image with the attributes of its slots.
+pub fn fill_image(slots: &Slots, filled: &mut [u8])
+    requires { length slots.now.image ≤ length filled.old }
+    ensures { filled.new ≡ starts_with (with_slots slots.now.image slots.now.attrs) filled.old }
 {
+    let image = slots.image();
+    let attrs = slots.attrs();
     copy_image(image.bytes(), filled);
-    for (j, slot) in slots.iter().enumerate() {
+    for (j, slot) in attrs.iter().enumerate() {
         store_slot(filled, slot_offset(image, j), slot);
     }
 }

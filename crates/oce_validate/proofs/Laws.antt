@@ -11,7 +11,6 @@ use mir.Val.{Fits}
 use borrow.Author.Tests.{lt-ltb, le-ltb}
 use Rattle.base.specs.Buffers.{starts_with, patch}
 use Rattle.base.proofs.Buffers.{starts_with-patch}
-use Rattle.oce_model.specs.Model.{model_of}
 use Rattle.oce_model.specs.Refusals.{refusal}
 use Rattle.oce_model.specs.declared.Refusal.{Refusal}
 use Rattle.oce_model.proofs.Accepted.{accepted}
@@ -22,7 +21,7 @@ use Rattle.oce_diag.specs.declared.Counted.{Counted}
 use Rattle.oce_diag.proofs.Diagnostics.{errors-warnings, no-errors, some-error}
 use Rattle.oce_diag.proofs.Putting.{put-errors, put-warnings, put-room, put_all-length}
 use Rattle.oce_diag.proofs.Encoding.{report_bytes-length}
-use Rattle.unify.specs.Slots.{Slots}
+use Rattle.unify_slots.specs.Slots.{SlotTable}
 use Rattle.outcome.specs.Filled.{with_slots, filled_of}
 use Rattle.outcome.specs.Report.{final_slots}
 use Rattle.outcome.specs.Answer.{report_of, report_size, answer, filled_after, report_after}
@@ -33,16 +32,16 @@ use Rattle.oce_validate.specs.Answered.{Answered, Tallied, Early}
 
 -- ---- a run of all rules
 
-module _ {s b b' : List ℕ} {σ : Slots} {c : Counted} (q : Ran (model_of s) σ b b' c) where
-  pub tallied : Tallied s σ c
+module _ {s b b' : List ℕ} {t : SlotTable} {c : Counted} (q : Ran s t b b' c) where
+  pub tallied : Tallied s t c
   unfolding report_of
   tallied = record { errors = put-errors q.put refl; warnings = put-warnings q.put refl; few = q.few; slots = q.slots }
 
   -- over a report with room for what was counted before
-  pub report-written : {before : Slots} {n : Counted} → Tallied s before n → diagnostic_size * total n ≤ length b → b' ≡ starts_with (report_bytes (report_of s)) b
+  pub report-written : {before : SlotTable} {n : Counted} → Tallied s before n → diagnostic_size * total n ≤ length b → b' ≡ starts_with (report_bytes (report_of s)) b
   unfolding report_of
-  report-written {n = n} t l =
-      let k : total n ≡ length (report_of s) = omega (arith, t.errors, t.warnings, errors-warnings (report_of s)) in
+  report-written {n = n} y l =
+      let k : total n ≡ length (report_of s) = omega (arith, y.errors, y.warnings, errors-warnings (report_of s)) in
       put-room q.put refl (rw k at l)
 
   -- over a buffer of any length: it holds the report, if that fits
@@ -59,7 +58,7 @@ module _ {s b b' : List ℕ} {σ : Slots} {c : Counted} (q : Ran (model_of s) σ
 
 -- ---- what is left in the buffers
 
-module _ {s : List ℕ} {σ : Slots} {c : Counted} (t : Tallied s σ c) where
+module _ {s : List ℕ} {w : SlotTable} {c : Counted} (t : Tallied s w c) where
   -- the report is copied
   pub early-copied : {e : List ℕ} (r : List ℕ) {r' : List ℕ} (k : ℕ) → Early s e → k ≡ diagnostic_size * total c → k ≤ length e → r' ≡ patch r 0 (take k e) → r' ≡ starts_with (report_bytes (report_of s)) r
   early-copied {e} r k h p l q =
@@ -71,12 +70,12 @@ module _ {s : List ℕ} {σ : Slots} {c : Counted} (t : Tallied s σ c) where
   pub filled-kept : (f : List ℕ) {f' : List ℕ} → refusal s ≡ None → Bytes s → f' ≡ starts_with s f → 0 < c.errors → f' ≡ starts_with (filled_of s) f
   filled-kept f h bytes e n = e ∙ ap (λ x. starts_with x f) (sym (filled-undone s bytes h (some-error (report_of s) (omega (arith, t.errors)))))
 
-  final : c.errors ≡ 0 → with_slots s σ ≡ filled_of s
+  final : c.errors ≡ 0 → with_slots w.image w.attrs ≡ filled_of s
   unfolding filled_of final_slots report_of
-  final z = rw (no-errors (report_of s) (sym t.errors ∙ z)) (ap (with_slots s) t.slots)
+  final z = rw (t.slots, no-errors (report_of s) (sym t.errors ∙ z))
 
   -- with no error the slots' attributes stand in it
-  pub filled-written : (f : List ℕ) {f' : List ℕ} → f' ≡ starts_with (with_slots s σ) f → c.errors ≤ 0 → f' ≡ starts_with (filled_of s) f
+  pub filled-written : (f : List ℕ) {f' : List ℕ} → f' ≡ starts_with (with_slots w.image w.attrs) f → c.errors ≤ 0 → f' ≡ starts_with (filled_of s) f
   filled-written f e z = e ∙ ap (λ x. starts_with x f) (final (omega arith))
 
 -- ---- sizes
@@ -106,7 +105,7 @@ module _ {s : List ℕ} (f r : List ℕ) (h : refusal s ≡ None) where
   unfolding answer
   short-filled l = refused-so s f r _ (rw (h, lt-ltb (length f) (length s) l))
 
-  module _ {σ : Slots} {c : Counted} (t : Tallied s σ c) where
+  module _ {w : SlotTable} {c : Counted} (t : Tallied s w c) where
     size_is : diagnostic_size * total c ≡ report_size (report_of s)
     size_is = let e = t.errors in let w = t.warnings in let n = errors-warnings (report_of s) in ap (λ k. diagnostic_size * k) (omega arith)
 

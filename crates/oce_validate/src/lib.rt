@@ -1,12 +1,10 @@
 // The checking call.
 #![tactic(auto)]
 
-ghost use Rattle.std.specs.Prelude.{◌≡◌, ◌*◌, ◌<◌, ◌≤◌, length, None};
+ghost use Rattle.std.specs.Prelude.{◌≡◌, ◌*◌, ◌≤◌, length};
 ghost use Rattle.base.specs.Buffers.{starts_with};
 ghost use Rattle.oce_model.specs.Model.{model_of};
-ghost use Rattle.oce_model.specs.Refusals.{refusal};
 ghost use Rattle.oce_diag.specs.Encoding.{diagnostic_size, report_bytes};
-ghost use Rattle.numbers.specs.Bytes.{word_range};
 ghost use Rattle.oce_diag.specs.Putting.{total};
 ghost use Rattle.unify_slots.specs.Slots.{slot_count};
 ghost use Rattle.outcome.specs.Filled.{filled_of};
@@ -16,12 +14,12 @@ ghost use Rattle.oce_validate.specs.Answered.{Answered, Tallied, Early};
 
 use base::copy_at;
 use filling::{copy_image, fill_image};
-use image_records::Image;
+use image_records::{Image, Tables};
 use oce_diag::{Counted, DIAGNOSTIC_SIZE};
-use oce_model::{Attrs, MOST_BLOCKS, MOST_BOUNDARY_OUTPUTS, MOST_CONNECTORS, MOST_TEXTS, Refusal};
+use oce_model::{MOST_BOUNDARY_OUTPUTS, MOST_CONNECTORS, Refusal};
 use outcome::Answer;
 use rules::run;
-use unify_slots::{NO_ATTRS, slot_count};
+use unify_slots::{NO_ATTRS, Slots, slot_count};
 
 // No image has more slots: one for each connector and each boundary output.
 pub const MOST_SLOTS: usize = MOST_CONNECTORS + MOST_BOUNDARY_OUTPUTS;
@@ -34,63 +32,58 @@ const SHORT_FILLED: u32 = 9;
 
 const SHORT_REPORT: u32 = 10;
 
-// Room for diagnostics that are written before it is known whether the report has room for them.
-const EARLY: usize = DIAGNOSTIC_SIZE * 64;
+// So many diagnostics are written before it is known whether the report has room for them.
+const EARLY_DIAGNOSTICS: usize = 64;
+
+const EARLY: usize = DIAGNOSTIC_SIZE * EARLY_DIAGNOSTICS;
 
 // Counts the diagnostics of an image; the slots are then filled.
-fn tally(image: &Image, slots: &mut [Attrs], early: &mut [u8]) -> Counted
-    requires { length slots.old ≡ slot_count (model_of image.now) }
-    ensures { Tallied image.now slots.new result × Early image.now early.new }
+fn tally(slots: &mut Slots, early: &mut [u8]) -> Counted
+    ensures { Tallied slots.old.image slots.new result × Early slots.old.image early.new }
 {
-    run(image, slots, early)
+    run(slots, early)
 }
 
 // The filled image: the attributes of the slots where there is no error, otherwise the image's own.
-fn leave_filled(image: &Image, slots: &[Attrs], counted: Counted, filled: &mut [u8])
-    requires { Tallied image.now slots.now counted × (length slots.now ≡ slot_count (model_of image.now)) × (length image.now ≤ length filled.old) }
-    ensures { filled.new ≡ starts_with (filled_of image.now) filled.old }
+fn leave_filled(slots: &Slots, counted: Counted, filled: &mut [u8])
+    requires { Tallied slots.now.image slots.now counted × (length slots.now.image ≤ length filled.old) }
+    ensures { filled.new ≡ starts_with (filled_of slots.now.image) filled.old }
 {
     if 0 < counted.errors {
-        copy_image(image.bytes(), filled);
+        copy_image(slots.image().bytes(), filled);
     } else {
-        fill_image(image, slots, filled);
+        fill_image(slots, filled);
     }
 }
 
 // The bytes of the report in which so many are counted.
 fn size_of(counted: Counted) -> usize
-    requires { total counted < word_range }
     ensures { result ≡ diagnostic_size * total counted }
 {
-    DIAGNOSTIC_SIZE * (counted.errors + counted.warnings) as usize
+    DIAGNOSTIC_SIZE * counted.total()
 }
 
 // The report: what was written early, or all rules once more.
-fn leave_report(
-    image: &Image,
-    slots: &mut [Attrs],
-    counted: Counted,
-    early: &[u8],
-    report: &mut [u8],
-)
-    requires { Tallied image.now slots.old counted × (length slots.old ≡ slot_count (model_of image.now)) × Early image.now early.now × (diagnostic_size * total counted ≤ length report.old) }
-    ensures { report.new ≡ starts_with (report_bytes (report_of image.now)) report.old }
+fn leave_report(slots: &mut Slots, counted: Counted, early: &[u8], report: &mut [u8])
+    requires { Tallied slots.old.image slots.old counted × Early slots.old.image early.now × (diagnostic_size * total counted ≤ length report.old) }
+    ensures { report.new ≡ starts_with (report_bytes (report_of slots.old.image)) report.old }
 {
     let size = size_of(counted);
     if size <= early.len() {
         copy_at(report, 0, &early[..size]);
     } else {
-        run(image, slots, report);
+        run(slots, report);
     }
 }
 
 // An accepted image for which the filled buffer has room, over its slots: refusal 10, or both buffers.
-fn check_over(image: &Image, slots: &mut [Attrs], filled: &mut [u8], report: &mut [u8]) -> Answer
-    requires { (refusal image.now ≡ None) × (length slots.old ≡ slot_count (model_of image.now)) × (length image.now ≤ length filled.old) }
-    ensures { Answered image.now filled.old report.old result filled.new report.new }
+fn check_over(slots: &mut Slots, filled: &mut [u8], report: &mut [u8]) -> Answer
+    requires { length slots.old.image ≤ length filled.old }
+    ensures { Answered slots.old.image filled.old report.old result filled.new report.new }
 {
+    let _ = slots.image().bytes();
     let mut early = [0u8; EARLY];
-    let counted = tally(image, slots, &mut early);
+    let counted = tally(slots, &mut early);
     let size = size_of(counted);
     if report.len() < size {
         return Err(Refusal {
@@ -98,19 +91,18 @@ fn check_over(image: &Image, slots: &mut [Attrs], filled: &mut [u8], report: &mu
             offset: size as u32,
         });
     }
-    leave_filled(image, slots, counted, filled);
-    leave_report(image, slots, counted, &early, report);
+    leave_filled(slots, counted, filled);
+    leave_report(slots, counted, &early, report);
     Ok(counted)
 }
 
 // The same with a table for so many slots.
 fn check_in<const SLOTS: usize>(image: &Image, filled: &mut [u8], report: &mut [u8]) -> Answer
-    requires { (refusal image.now ≡ None) × (slot_count (model_of image.now) ≤ SLOTS) × (SLOTS ≤ MOST_SLOTS) × (length image.now ≤ length filled.old) }
+    requires { (slot_count (model_of image.now) ≤ SLOTS) × (SLOTS ≤ MOST_SLOTS) × (length image.now ≤ length filled.old) }
     ensures { Answered image.now filled.old report.old result filled.new report.new }
 {
     let mut table = [NO_ATTRS; SLOTS];
-    let slots = slot_count(image);
-    check_over(image, &mut table[..slots], filled, report)
+    check_over(&mut Slots::of(image, &mut table), filled, report)
 }
 
 // An accepted image: refusal 9, or on to its rules.
@@ -135,16 +127,15 @@ fn check_accepted(image: &Image, filled: &mut [u8], report: &mut [u8]) -> Answer
 fn check_any(image: &[u8], filled: &mut [u8], report: &mut [u8]) -> Answer
     ensures { Answered image.now filled.old report.old result filled.new report.new }
 {
-    let mut texts = [0usize; MOST_TEXTS];
-    let mut blocks = [0usize; MOST_BLOCKS];
-    let image = Image::accept(image, &mut texts, &mut blocks)?;
+    let mut tables = Tables::EMPTY;
+    let image = Image::accept(image, &mut tables)?;
     check_accepted(&image, filled, report)
 }
 
 // Checks a model image: the report of its diagnostics goes into one buffer, the image with its
 // attributes filled into the other, bytes behind both stay. Where the image is refused, or a buffer is
-// too short, both buffers stay as they are. `answer` is the answer of FORMAT 1, `numbers` its numbers,
-// `moved` demand 3.
+// too short, both buffers stay as they are. `answer` is the answer of FORMAT 1, `numbers` its numbers, `moved`
+// a theorem about values that move along connections.
 pub fn check(image: &[u8], filled: &mut [u8], report: &mut [u8]) -> Answer
     ensures answer { result ≡ answer image.now (length filled.old) (length report.old) }
     ensures numbers { numbers_of result ≡ numbers_of (answer image.now (length filled.old) (length report.old)) }

@@ -9,7 +9,7 @@ use lib.Dec.{ltb}
 use lib.ListN.{length}
 use borrow.Author.Tests.{lt-ltb, le-ltb}
 use Rattle.oce_model.specs.Format.{most_connectors, most_external_inputs}
-use Rattle.oce_model.specs.Model.{Model, connector_count}
+use Rattle.oce_model.specs.Model.{Model, model_of, connector_count}
 use Rattle.oce_diag.specs.Diagnostics.{has_error, errors}
 use Rattle.oce_diag.specs.declared.Diagnostic.{Diagnostic}
 use Rattle.oce_diag.specs.declared.Counted.{Counted}
@@ -18,7 +18,7 @@ use Rattle.oce_diag.specs.Reporting.{Puts}
 use Rattle.oce_diag.specs.declared.report.Report.{Report}
 use Rattle.oce_diag.proofs.Diagnostics.{no-errors, some-error}
 use Rattle.oce_diag.proofs.Putting.{put_then}
-use Rattle.unify.specs.Slots.{Slots}
+use Rattle.unify_slots.specs.Slots.{SlotTable}
 use Rattle.unify_cluster.specs.Clusters.{most_cluster_faults}
 use Rattle.unify.specs.Unify.{rule6}
 use Rattle.unify_clusters.specs.Unified.{Unified}
@@ -42,19 +42,13 @@ ran-put m {b} {b'} {b''} {c'} {c''} p q =
     put_then p (rw g at q)
 
 -- rules 1 to 5, and then rule 6
-pub ran : (m : Model) {σ : Slots} {r₀ r r' : Report} → connector_count m ≤ most_connectors → r₀.counted ≡ none → Puts most_before6 (rules_before6 m) r₀ r → Unified m σ r r'
-    → Ran m σ r₀.bytes.now r'.bytes.now r'.counted
-ran m h e p u =
-    let first : Put _ none (rules_before6 m) _ _ = rw e at p.put in
+pub ran : (s : List ℕ) {t : SlotTable} {r₀ r r' : Report} → connector_count (model_of s) ≤ most_connectors → r₀.counted ≡ none → Puts most_before6 (rules_before6 (model_of s)) r₀ r → Unified s t r r'
+    → Ran s t r₀.bytes.now r'.bytes.now r'.counted
+ran s h e p u =
+    let m = model_of s in
+    let first : Put _ none (rules_before6 (model_of s)) _ _ = rw e at p.put in
     record {
       slots = u.slots;
       put = ran-put m first u.puts.put;
       few = omega (arith, p.few, u.puts.few, ap (λ (c : Counted). c.errors + c.warnings) e, mul-le-mul_left {m = connector_count m} {n = most_connectors} (most_cluster_faults + 1) h);
     }
-
--- columns of two sizes
-pub roomy-few : (m : Model) → connector_count m ≤ most_connectors → connector_count m ≤ few_records → length m.external_inputs ≤ few_records → Roomy m few_records few_records
-roomy-few m f h k = record { few = f; connectors = h; externals = k; short = (omega arith, omega arith) }
-
-pub roomy-most : (m : Model) → connector_count m ≤ most_connectors → length m.external_inputs ≤ most_external_inputs → Roomy m most_connectors most_external_inputs
-roomy-most m h k = record { few = h; connectors = h; externals = k; short = (omega arith, omega arith) }

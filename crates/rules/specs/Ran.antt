@@ -1,15 +1,14 @@
 -- What a run over all rules gives.
 use Rattle.std.specs.Prelude.{ℕ, ◌+◌, ◌*◌, ◌≤◌, ◌≡◌, List, length}
 use Rattle.oce_model.specs.Format.{most_connectors, most_external_inputs, most_connections, most_boundary_outputs}
-use Rattle.oce_model.specs.Model.{Model, connector_count}
+use Rattle.oce_model.specs.Model.{Model, model_of, connector_count}
 use Rattle.oce_diag.specs.declared.Counted.{Counted}
 use Rattle.oce_diag.specs.Putting.{total, Put}
 use Rattle.structural_arena_ids.specs.PerRecord.{most_arena_faults}
 use Rattle.structural_wiring.specs.PerRecord.{most_output_faults, most_connection_faults}
 use Rattle.structural_assignment.specs.PerRecord.{most_assignment_faults}
 use Rattle.crossed_records.specs.Most.{most_crossed}
-use Rattle.unify.specs.Unify.{filled_slots}
-use Rattle.unify.specs.Slots.{Slots}
+use Rattle.unify_slots.specs.Slots.{SlotTable, filled}
 use Rattle.unify_clusters.specs.Unified.{most_unified_faults}
 use Rattle.outcome.specs.Report.{report}
 
@@ -42,8 +41,8 @@ most_before6 = most_first_two + most_second_two + most_crossed
 abbrev pub most_diagnostics : ℕ
 most_diagnostics = most_before6 + most_unified_faults
 
--- the slots are those after all roots, and a report b has become b' by all diagnostics of a model, c of them
-pub record Ran (m : Model) (σ : Slots) (b b' : List ℕ) (c : Counted) : Type 0 where
-  pub slots : σ ≡ filled_slots m
-  pub put : Put b none (report m) b' c
+-- the slots are those of image s after all roots, and a report b has become b' by all its diagnostics, c of them
+pub record Ran (s : List ℕ) (t : SlotTable) (b b' : List ℕ) (c : Counted) : Type 0 where
+  pub slots : t ≡ filled s
+  pub put : Put b none (report (model_of s)) b' c
   pub few : total c ≤ most_diagnostics

@@ -1,22 +1,21 @@
 // All rules in their order (FORMAT 7), over one report.
 #![tactic(auto)]
 
-ghost use Rattle.std.specs.Prelude.{◌≡◌, ◌≤◌, length};
+ghost use Rattle.std.specs.Prelude.{◌≡◌, ◌≤◌};
 ghost use Rattle.oce_model.specs.Model.{model_of, connector_count};
 ghost use Rattle.oce_model.specs.Format.{most_connectors};
 ghost use Rattle.oce_diag.specs.Reporting.{Room, Puts};
-ghost use Rattle.unify_slots.specs.Slots.{slot_count};
 ghost use Rattle.outcome.specs.Report.{rules_before6};
 ghost use Rattle.rules.specs.Ran.{none, Roomy, Ran, most_before6};
 
 use crossed_records::check_crossed_bounds;
-use image_records::Image;
 use oce_diag::{Counted, Report};
-use oce_model::{Attrs, MOST_CONNECTORS, MOST_EXTERNAL_INPUTS};
+use oce_model::{MOST_CONNECTORS, MOST_EXTERNAL_INPUTS};
 use structural_arena_ids::check_arena_ids;
 use structural_assignment::{Drivers, check_single_assignment};
 use structural_wiring::{check_boundary_outputs, check_connections};
 use unify_clusters::unify_clusters;
+use unify_slots::Slots;
 
 // So many connectors, and so many external inputs, have shorter columns, which are sooner cleared.
 const FEW_RECORDS: usize = 192;
@@ -35,10 +34,10 @@ fn rules_before_6(drivers: &Drivers, report: &mut Report)
 }
 
 // All rules, over a report with nothing counted.
-fn all_rules(drivers: &Drivers, slots: &mut [Attrs], report: &mut Report)
-    requires slots { length slots.old ≡ slot_count (model_of drivers.now) }
+fn all_rules(drivers: &Drivers, slots: &mut Slots, report: &mut Report)
+    requires one { slots.old.image ≡ drivers.now }
     requires start { (report.old.counted ≡ none) × (connector_count (model_of drivers.now) ≤ most_connectors) }
-    ensures ran { Ran (model_of drivers.now) slots.new report.old.bytes.now report.new.bytes.now report.new.counted }
+    ensures ran { Ran drivers.now slots.new report.old.bytes.now report.new.bytes.now report.new.counted }
     ensures same { report.new.bytes.ghost_name ≡ report.old.bytes.ghost_name }
 {
     rules_before_6(drivers, report);
@@ -47,18 +46,16 @@ fn all_rules(drivers: &Drivers, slots: &mut [Attrs], report: &mut Report)
 
 // The same over columns for so many connectors and so many external inputs.
 fn run_in<const CONNECTORS: usize, const EXTERNALS: usize>(
-    image: &Image,
-    slots: &mut [Attrs],
+    slots: &mut Slots,
     report: &mut [u8],
 ) -> Counted
-    requires columns { Roomy (model_of image.now) CONNECTORS EXTERNALS }
-    requires slots { length slots.old ≡ slot_count (model_of image.now) }
-    ensures { Ran (model_of image.now) slots.new report.old report.new result }
+    requires { Roomy (model_of slots.old.image) CONNECTORS EXTERNALS }
+    ensures { Ran slots.old.image slots.new report.old report.new result }
 {
     let mut degrees = [0u32; CONNECTORS];
     let mut marks = [false; EXTERNALS];
     let mut others = [0u32; EXTERNALS];
-    let drivers = Drivers::of(image, &mut degrees, &mut marks, &mut others);
+    let drivers = Drivers::of(slots.image(), &mut degrees, &mut marks, &mut others);
     let mut report = Report {
         bytes: report,
         counted: Counted::default(),
@@ -69,15 +66,15 @@ fn run_in<const CONNECTORS: usize, const EXTERNALS: usize>(
 }
 
 // All rules over one report, which holds nothing yet. The slots are then as rule 6 fills them.
-pub fn run(image: &Image, slots: &mut [Attrs], report: &mut [u8]) -> Counted
-    requires { length slots.old ≡ slot_count (model_of image.now) }
-    ensures { Ran (model_of image.now) slots.new report.old report.new result }
+pub fn run(slots: &mut Slots, report: &mut [u8]) -> Counted
+    ensures { Ran slots.old.image slots.new report.old report.new result }
 {
+    let image = slots.image();
     let connectors = image.connector_count();
     let externals = image.external_input_count();
     if connectors <= FEW_RECORDS && externals <= FEW_RECORDS {
-        run_in::<FEW_RECORDS, FEW_RECORDS>(image, slots, report)
+        run_in::<FEW_RECORDS, FEW_RECORDS>(slots, report)
     } else {
-        run_in::<MOST_CONNECTORS, MOST_EXTERNAL_INPUTS>(image, slots, report)
+        run_in::<MOST_CONNECTORS, MOST_EXTERNAL_INPUTS>(slots, report)
     }
 }
