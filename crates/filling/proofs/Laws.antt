@@ -13,7 +13,7 @@ use Rattle.base.proofs.Members.{get_or-default}
 use Rattle.base.proofs.Patches.{patched, patched-next, patched-length}
 use Rattle.numbers.specs.Bytes.{short_range, le_bytes}
 use Rattle.numbers.proofs.Bytes.{le_bytes-low, le_bytes-length}
-use Rattle.oce_model.specs.Format.{attrs_length, attrs_quantity_at, attrs_min_at, longest_image, quantity_bit, unit_bit, display_unit_bit, min_bit, max_bit, nominal_bit, connector_tag, connector_size, connector_attrs, boundary_output_tag, boundary_output_size, boundary_output_attrs, fixed_length}
+use Rattle.oce_model.specs.Format.{attrs_length, attrs_quantity_at, attrs_unit_at, attrs_display_unit_at, attrs_min_at, attrs_max_at, attrs_nominal_at, longest_image, quantity_bit, unit_bit, display_unit_bit, min_bit, max_bit, nominal_bit, connector_tag, connector_size, connector_attrs, boundary_output_tag, boundary_output_size, boundary_output_attrs, fixed_length}
 use Rattle.oce_model.specs.Image.{start_of}
 use Rattle.oce_model.specs.Attributes.{num, no_attrs, attrs_bytes}
 use Rattle.oce_model.specs.declared.Attrs.{Attrs}
@@ -55,17 +55,25 @@ module _ (s : List ℕ) (at : ℕ) (a : Attrs) where
   unfolding lead_bytes
   patch-lead h ek em = rw (ek, em) at h
 
-  pub patch-texts : {s₁ s₂ s₃ : List ℕ} {x y z : ℕ} → s₃ ≡ patch s₂ (at + 4) (le_bytes 2 (z % short_range)) → s₂ ≡ patch s₁ (at + 2) (le_bytes 2 (y % short_range)) → s₁ ≡ patch s at (le_bytes 2 (x % short_range))
-      → x ≡ num a quantity_bit → y ≡ num a unit_bit → z ≡ num a display_unit_bit → at + 6 ≤ length s → s₃ ≡ patch s at (text_bytes a)
+  pub patch-texts : {s₁ s₂ s₃ : List ℕ} {x y z : ℕ} → s₃ ≡ patch s₂ (at + attrs_display_unit_at) (le_bytes 2 (z % short_range)) → s₂ ≡ patch s₁ (at + attrs_unit_at) (le_bytes 2 (y % short_range))
+      → s₁ ≡ patch s (at + attrs_quantity_at) (le_bytes 2 (x % short_range)) → x ≡ num a quantity_bit → y ≡ num a unit_bit → z ≡ num a display_unit_bit → at + attrs_length ≤ length s
+      → s₃ ≡ patch s (at + attrs_quantity_at) (text_bytes a)
   unfolding text_bytes
-  patch-texts {x = x} {y} {z} h g f ex ey ez fits =
-      patch-numbers 2 s at (num a quantity_bit) (num a unit_bit) (num a display_unit_bit)
-      (h ∙ rw (le_bytes-low 2 z, ez)) (g ∙ rw (le_bytes-low 2 y, ey)) (f ∙ rw (le_bytes-low 2 x, ex)) fits
+  patch-texts {x = x} {y} {z} h' g' f ex ey ez fits =
+      let p : at + attrs_unit_at ≡ at + attrs_quantity_at + 2 = omega arith in
+      let q : at + attrs_display_unit_at ≡ at + attrs_quantity_at + (2 + 2) = omega arith in
+      let g = rw p at g' in
+      let h = rw q at h' in
+      patch-numbers 2 s (at + attrs_quantity_at) (num a quantity_bit) (num a unit_bit) (num a display_unit_bit)
+      (h ∙ rw (le_bytes-low 2 z, ez)) (g ∙ rw (le_bytes-low 2 y, ey)) (f ∙ rw (le_bytes-low 2 x, ex)) (omega arith)
 
-  pub patch-ends : {s₁ s₂ s₃ : List ℕ} {x y z : ℕ} → s₃ ≡ patch s₂ (at + 16) (le_bytes 8 z) → s₂ ≡ patch s₁ (at + 8) (le_bytes 8 y) → s₁ ≡ patch s at (le_bytes 8 x)
-      → x ≡ num a min_bit → y ≡ num a max_bit → z ≡ num a nominal_bit → at + 24 ≤ length s → s₃ ≡ patch s at (end_bytes a)
+  pub patch-ends : {s₁ s₂ s₃ : List ℕ} {x y z : ℕ} → s₃ ≡ patch s₂ (at + attrs_nominal_at) (le_bytes 8 z) → s₂ ≡ patch s₁ (at + attrs_max_at) (le_bytes 8 y) → s₁ ≡ patch s (at + attrs_min_at) (le_bytes 8 x)
+      → x ≡ num a min_bit → y ≡ num a max_bit → z ≡ num a nominal_bit → at + attrs_length ≤ length s → s₃ ≡ patch s (at + attrs_min_at) (end_bytes a)
   unfolding end_bytes
-  patch-ends h g f ex ey ez fits = patch-numbers 8 s at (num a min_bit) (num a max_bit) (num a nominal_bit) (rw ez at h) (rw ey at g) (rw ex at f) fits
+  patch-ends h g f ex ey ez fits =
+      let p : at + attrs_max_at ≡ at + attrs_min_at + 8 = omega arith in
+      let q : at + attrs_nominal_at ≡ at + attrs_min_at + (8 + 8) = omega arith in
+      patch-numbers 8 s (at + attrs_min_at) (num a min_bit) (num a max_bit) (num a nominal_bit) (rw (q, ez) at h) (rw (p, ey) at g) (rw ex at f) (omega arith)
 
   pub patch-attrs : {s₁ s₂ s₃ : List ℕ} → s₃ ≡ patch s₂ (at + attrs_min_at) (end_bytes a) → s₂ ≡ patch s₁ (at + attrs_quantity_at) (text_bytes a) → s₁ ≡ patch s at (lead_bytes a) → at + attrs_length ≤ length s → s₃ ≡ patch s at (attrs_bytes a)
   unfolding attrs_bytes lead_bytes text_bytes end_bytes le_bytes

@@ -4,7 +4,7 @@
 ghost use Rattle.std.specs.Prelude.{◌≡◌, ℕ, ◌+◌, ◌≤◌, ◌<◌, length, get_or, slice_index};
 ghost use Rattle.base.specs.Buffers.{patch, starts_with};
 ghost use Rattle.numbers.specs.Bytes.{byte_range};
-ghost use Rattle.oce_model.specs.Format.{attrs_length};
+ghost use Rattle.oce_model.specs.Format.{attrs_length, attrs_quantity_at, attrs_min_at};
 ghost use Rattle.oce_model.specs.Attributes.{attrs_bytes};
 ghost use Rattle.oce_model.specs.Model.{model_of};
 ghost use Rattle.unify_slots.specs.Slots.{slot_count};
@@ -15,15 +15,16 @@ use base::copy_at;
 use image_records::Image;
 use numbers::{LittleEndian, SHORT_RANGE_U64};
 use oce_model::{
-    ATTRS_MIN_AT, ATTRS_QUANTITY_AT, Attrs, BOUNDARY_OUTPUT_ATTRS, BOUNDARY_OUTPUT_SIZE,
-    CONNECTOR_ATTRS, CONNECTOR_SIZE, DISPLAY_UNIT_BIT, MAX_BIT, MIN_BIT, NOMINAL_BIT, QUANTITY_BIT,
+    ATTRS_DISPLAY_UNIT_AT, ATTRS_MAX_AT, ATTRS_MIN_AT, ATTRS_NOMINAL_AT, ATTRS_QUANTITY_AT,
+    ATTRS_UNIT_AT, Attrs, BOUNDARY_OUTPUT_ATTRS, BOUNDARY_OUTPUT_SIZE, CONNECTOR_ATTRS,
+    CONNECTOR_SIZE, DISPLAY_UNIT_BIT, MAX_BIT, MIN_BIT, NOMINAL_BIT, QUANTITY_BIT,
     UNIT_BIT,
 };
 use unify_slots::Slots;
 
 // Kind and marks of a slot.
 fn store_lead(filled: &mut [u8], at: usize, slot: &Attrs)
-    requires { at + 2 ≤ length filled.old }
+    requires { at + attrs_length ≤ length filled.old }
     ensures { filled.new ≡ patch filled.old at (lead_bytes slot.now) }
 {
     copy_at(filled, at, &[slot.kind, slot.marks]);
@@ -31,25 +32,25 @@ fn store_lead(filled: &mut [u8], at: usize, slot: &Attrs)
 
 // Its text numbers, by their low 16 bits.
 fn store_texts(filled: &mut [u8], at: usize, slot: &Attrs)
-    requires { at + 6 ≤ length filled.old }
-    ensures { filled.new ≡ patch filled.old at (text_bytes slot.now) }
+    requires { at + attrs_length ≤ length filled.old }
+    ensures { filled.new ≡ patch filled.old (at + attrs_quantity_at) (text_bytes slot.now) }
 {
     let quantity = (slot.nums[QUANTITY_BIT] % SHORT_RANGE_U64) as u16;
     let unit = (slot.nums[UNIT_BIT] % SHORT_RANGE_U64) as u16;
     let display = (slot.nums[DISPLAY_UNIT_BIT] % SHORT_RANGE_U64) as u16;
-    quantity.write(filled, at);
-    unit.write(filled, at + 2);
-    display.write(filled, at + 4);
+    quantity.write(filled, at + ATTRS_QUANTITY_AT);
+    unit.write(filled, at + ATTRS_UNIT_AT);
+    display.write(filled, at + ATTRS_DISPLAY_UNIT_AT);
 }
 
 // Its numbers of 64 bits.
 fn store_ends(filled: &mut [u8], at: usize, slot: &Attrs)
-    requires { at + 24 ≤ length filled.old }
-    ensures { filled.new ≡ patch filled.old at (end_bytes slot.now) }
+    requires { at + attrs_length ≤ length filled.old }
+    ensures { filled.new ≡ patch filled.old (at + attrs_min_at) (end_bytes slot.now) }
 {
-    slot.nums[MIN_BIT].write(filled, at);
-    slot.nums[MAX_BIT].write(filled, at + 8);
-    slot.nums[NOMINAL_BIT].write(filled, at + 16);
+    slot.nums[MIN_BIT].write(filled, at + ATTRS_MIN_AT);
+    slot.nums[MAX_BIT].write(filled, at + ATTRS_MAX_AT);
+    slot.nums[NOMINAL_BIT].write(filled, at + ATTRS_NOMINAL_AT);
 }
 
 // All of it.
@@ -58,8 +59,8 @@ fn store_slot(filled: &mut [u8], at: usize, slot: &Attrs)
     ensures { filled.new ≡ patch filled.old at (attrs_bytes slot.now) }
 {
     store_lead(filled, at, slot);
-    store_texts(filled, at + ATTRS_QUANTITY_AT, slot);
-    store_ends(filled, at + ATTRS_MIN_AT, slot);
+    store_texts(filled, at, slot);
+    store_ends(filled, at, slot);
 }
 
 // Where the attributes of slot j stand.

@@ -2,6 +2,7 @@
 #![tactic(auto)]
 
 ghost use Rattle.std.specs.Prelude.{◌≡◌, ◌<◌};
+ghost use Rattle.oce_model.specs.Model.{kind_number};
 ghost use Rattle.unify.specs.Details.{detail_number, kind_of, bit_of, is_text};
 
 use oce_model::{DISPLAY_UNIT_BIT, Kind, MAX_BIT, MIN_BIT, NUMBER_COUNT, QUANTITY_BIT, UNIT_BIT};
@@ -9,7 +10,7 @@ use oce_model::{DISPLAY_UNIT_BIT, Kind, MAX_BIT, MIN_BIT, NUMBER_COUNT, QUANTITY
 // The details 6.1 to 6.7, in their order. The Rust's `RealAttr` and `IntAttr`, and the display unit.
 #[derive(Clone, Copy, PartialEq, Eq, Debug)]
 pub enum Detail {
-    Unit,
+    Unit = 1,
     Quantity,
     RealMin,
     RealMax,
@@ -18,8 +19,11 @@ pub enum Detail {
     DisplayUnit,
 }
 
-// Those that are filled: 6.1 to 6.6.
-pub const UNIFIED: [Detail; 6] = [
+// How many are filled: 6.1 to 6.6.
+pub const UNIFIED_COUNT: usize = 6;
+
+// Those that are filled.
+pub const UNIFIED: [Detail; UNIFIED_COUNT] = [
     Detail::Unit,
     Detail::Quantity,
     Detail::RealMin,
@@ -34,25 +38,17 @@ impl Detail {
     pub fn number(self) -> u8
         ensures { result ≡ detail_number self }
     {
-        match self {
-            Detail::Unit => 1,
-            Detail::Quantity => 2,
-            Detail::RealMin => 3,
-            Detail::RealMax => 4,
-            Detail::IntegerMin => 5,
-            Detail::IntegerMax => 6,
-            Detail::DisplayUnit => 7,
-        }
+        self as u8
     }
 
     // The kind that it is an attribute of.
     #[tactic(auto, unfolding(crate::specs::Details::kind_of))]
-    pub fn kind(self) -> u8
-        ensures { result ≡ kind_of self }
+    pub fn kind(self) -> Kind
+        ensures { kind_number result ≡ kind_of self }
     {
         match self {
-            Detail::IntegerMin | Detail::IntegerMax => Kind::Integer as u8,
-            _ => Kind::Real as u8,
+            Detail::IntegerMin | Detail::IntegerMax => Kind::Integer,
+            _ => Kind::Real,
         }
     }
 

@@ -10,11 +10,14 @@ use Rattle.std.specs.Prelude.{None}
 use lib.Bits.{bit_or, or_shr, or_mod}
 use lib.Dec.{eqb}
 use lib.ListN.{length, get_or, get_or-eq_default}
-use borrow.Author.Tests.{eqb-true, eqb-false, eq-eqb, ne_eqb}
+use borrow.Author.Tests.{eqb-true, eqb-false}
 use Rattle.numbers.specs.Bytes.{bit}
 use Rattle.oce_model.specs.Format.{real_kind, integer_kind}
 use Rattle.oce_model.specs.Attributes.{declared_at, marked, no_attrs, num}
 use Rattle.oce_model.specs.declared.Attrs.{Attrs}
+use Rattle.oce_model.specs.declared.Kind.{Kind}
+use Rattle.oce_model.specs.declared.Kind.TheVariants.{Real, Integer, Boolean, String, Enum}
+use Rattle.oce_model.specs.Model.{kind_number}
 use Rattle.unify.specs.Details.{kind_of, bit_of}
 use Rattle.unify.specs.Slots.{Slots, slot, value}
 use Rattle.unify.specs.Unify.{declarations}
@@ -72,14 +75,21 @@ module _ {σ : Slots} {js : List ℕ} where
 
 -- ---- a detail
 
-module _ (d : Detail) (real integer : ℕ) {k p : ℕ} {r : Bool} (ek : k ≡ kind_of d) (ep : p ≡ bit_of d) where
-  pub shows-real : r ≡ bit real p → k ≡ real_kind → r ≡ shows d real integer
-  unfolding shows
-  shows-real er e = er ∙ rw (eq-eqb (kind_of d) real_kind (sym ek ∙ e), ep)
+not_real : (k : Kind) → (k ≡ Real → ⊥) → eqb (kind_number k) real_kind ≡ false
+not_real Real n = absurd (n refl)
+not_real Integer n = refl
+not_real Boolean n = refl
+not_real String n = refl
+not_real Enum n = refl
 
-  pub shows-integer : r ≡ bit integer p → (k ≡ real_kind → ⊥) → r ≡ shows d real integer
+module _ (d : Detail) (real integer : ℕ) {k : Kind} {p : ℕ} {r : Bool} (ek : kind_number k ≡ kind_of d) (ep : p ≡ bit_of d) where
+  pub shows-real : r ≡ bit real p → k ≡ Real → r ≡ shows d real integer
   unfolding shows
-  shows-integer er n = er ∙ rw (ne_eqb (kind_of d) real_kind (λ e. n (ek ∙ e)), ep)
+  shows-real er e = er ∙ rw (← ek, e, ep)
+
+  pub shows-integer : r ≡ bit integer p → (k ≡ Real → ⊥) → r ≡ shows d real integer
+  unfolding shows
+  shows-integer er n = er ∙ rw (← ek, not_real k n, ep)
 
 -- attributes of the kind that don't have the bit set declare nothing
 value-unmarked : (d : Detail) (a : Attrs) → (a.kind ≡ kind_of d → bit a.marks (bit_of d) ≡ false) → value d a ≡ None

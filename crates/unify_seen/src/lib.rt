@@ -3,6 +3,7 @@
 #![tactic(auto)]
 
 ghost use Rattle.std.specs.Prelude.{◌≡◌, ◌&&◌, eqb, length};
+ghost use Rattle.oce_model.specs.Model.{kind_number};
 ghost use Rattle.unify_seen.specs.Seen.{TakenIn, Sees, shows};
 
 use numbers::is_set;
@@ -13,15 +14,15 @@ use unify_slots::Slots;
 // The marks of all Real members together, and those of all Integer members.
 #[derive(Clone, Copy, PartialEq, Eq, Debug)]
 pub struct Seen {
-    pub real: u8,
-    pub integer: u8,
+    real: u8,
+    integer: u8,
 }
 
 // The marks `had` with those of one member more, if that is of the wanted kind.
-fn take_in(had: u8, wanted: u8, a: &Attrs) -> u8
-    ensures { TakenIn wanted a.now.kind a.now.marks had result }
+fn take_in(had: u8, wanted: Kind, a: &Attrs) -> u8
+    ensures { TakenIn (kind_number wanted) a.now.kind a.now.marks had result }
 {
-    if a.kind == wanted { had | a.marks } else { had }
+    if a.has_kind(wanted) { had | a.marks } else { had }
 }
 
 // What the members declare.
@@ -33,8 +34,8 @@ pub fn seen_in(slots: &Slots, members: &[usize]) -> Seen
     let mut integer = 0;
     for j in members {
         if let Some(a) = attrs.get(*j) {
-            real = take_in(real, Kind::Real as u8, a);
-            integer = take_in(integer, Kind::Integer as u8, a);
+            real = take_in(real, Kind::Real, a);
+            integer = take_in(integer, Kind::Integer, a);
         }
     }
     Seen { real, integer }
@@ -45,10 +46,9 @@ impl Seen {
     pub fn shows(self, detail: Detail) -> bool
         ensures { result ≡ shows detail self.real self.integer }
     {
-        let marks = if detail.kind() == Kind::Real as u8 {
-            self.real
-        } else {
-            self.integer
+        let marks = match detail.kind() {
+            Kind::Real => self.real,
+            _ => self.integer,
         };
         is_set(usize::from(marks), detail.bit())
     }

@@ -12,7 +12,6 @@ use lib.Seq.{take-suc, take-suc-set, take_all}
 use lib.Dec.{eqb}
 use mir.Syntax.{w8}
 use mir.Val.{Fits}
-use borrow.Author.Tests.{eq-eqb, ne_eqb}
 use Rattle.numbers.specs.Bytes.{bit}
 use Rattle.numbers.proofs.Bits.{mark-fits}
 use Rattle.oce_model.specs.Attributes.{no_attrs, num, declared_at, declare_at, marked}
@@ -56,18 +55,21 @@ declared-outside d σ j h = rw (get_or-eq_default σ no_attrs h) (arm (eqb 0 (ki
 
 -- ---- one slot, by its kind and its mark for a detail
 
-module _ (d : Detail) (a : Attrs) {k : ℕ} (ek : k ≡ kind_of d) where
-  pub declared-other : (a.kind ≡ k → ⊥) → None ≡ value d a
+module _ (d : Detail) (a : Attrs) {k : ℕ} {t : Bool} (ek : k ≡ kind_of d) (et : t ≡ eqb a.kind k) where
+  kind-is : eqb a.kind (kind_of d) ≡ t
+  kind-is = rw (← ek) (sym et)
+
+  pub declared-other : t ≡ false → None ≡ value d a
   unfolding value
-  declared-other n = rw (ne_eqb a.kind (kind_of d) (λ e. n (e ∙ sym ek)))
+  declared-other n = rw (kind-is, n)
 
-  pub put-other : (v : ℕ) → (a.kind ≡ k → ⊥) → a ≡ put d v a
+  pub put-other : (v : ℕ) → t ≡ false → a ≡ put d v a
   unfolding put
-  put-other v n = rw (ne_eqb a.kind (kind_of d) (λ e. n (e ∙ sym ek)))
+  put-other v n = rw (kind-is, n)
 
-  module _ (e : a.kind ≡ k) {p : ℕ} (ep : p ≡ bit_of d) {r : Bool} (er : r ≡ bit a.marks p) where
+  module _ (e : t ≡ true) {p : ℕ} (ep : p ≡ bit_of d) {r : Bool} (er : r ≡ bit a.marks p) where
     kind-so : eqb a.kind (kind_of d) ≡ true
-    kind-so = eq-eqb a.kind (kind_of d) (e ∙ ek)
+    kind-so = kind-is ∙ e
 
     bit-so : bit a.marks (bit_of d) ≡ r
     bit-so = rw (← ep) (sym er)

@@ -18,7 +18,7 @@ pub fn declared(a: &Attrs, detail: Detail) -> Option<u64>
     ensures { result ≡ value detail a.now }
 {
     let p = detail.bit();
-    if a.kind == detail.kind() && a.is_marked(p) {
+    if a.has_kind(detail.kind()) && a.is_marked(p) {
         Some(a.number(p))
     } else {
         None
@@ -30,8 +30,9 @@ pub fn put(a: &mut Attrs, detail: Detail, v: u64)
     ensures { a.new ≡ put detail v a.old }
 {
     let p = detail.bit();
-    if a.kind == detail.kind() && !a.is_marked(p) {
-        a.marks += 1 << p;
+    if a.has_kind(detail.kind()) && !a.is_marked(p) {
+        let marks = a.marks;
+        a.marks = marks + (1 << p);
         a.nums[p] = v;
     }
 }
