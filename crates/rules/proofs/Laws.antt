@@ -6,9 +6,8 @@ use native.Mathlib.Omega.{arith}
 use mathlib.Core.Path.{◌≡◌, ap, ◌∙◌}
 use mathlib.Core.List.{List}
 use lib.Dec.{ltb}
-use lib.ListN.{length}
 use borrow.Author.Tests.{lt-ltb, le-ltb}
-use Rattle.oce_model.specs.Format.{most_connectors, most_external_inputs}
+use Rattle.oce_model.specs.Format.{most_connectors}
 use Rattle.oce_model.specs.Model.{Model, model_of, connector_count}
 use Rattle.oce_diag.specs.Diagnostics.{has_error, errors}
 use Rattle.oce_diag.specs.declared.Diagnostic.{Diagnostic}
@@ -23,7 +22,7 @@ use Rattle.unify_cluster.specs.Clusters.{most_cluster_faults}
 use Rattle.unify.specs.Unify.{rule6}
 use Rattle.unify_clusters.specs.Unified.{Unified}
 use Rattle.outcome.specs.Report.{report, rules_before6}
-use Rattle.rules.specs.Ran.{few_records, none, most_before6, Roomy, Ran}
+use Rattle.rules.specs.Ran.{none, most_before6, Ran}
 
 -- a list holds an error exactly if errors are counted in it
 counted-errors : (ds : List Diagnostic) → ltb 0 (errors ds) ≡ has_error ds

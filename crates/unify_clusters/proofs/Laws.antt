@@ -1,13 +1,11 @@
 -- Laws of all of rule 6.
-use Prim.Native.Nat.{ℕ, ◌+◌, ◌*◌, ◌≤◌, ◌<◌}
+use Prim.Native.Nat.{ℕ, ◌+◌, ◌*◌}
 use native.Mathlib.Decide.{ℕ_discrete}
 use native.Mathlib.Omega.{arith}
 use mathlib.Core.Path.{◌≡◌, sym, ◌∙◌}
 use mathlib.Core.Bool.{cond, ◌||◌}
 use mathlib.Core.List.{List, ◌++◌}
-use Rattle.std.specs.Prelude.{Option, None}
 use lib.Dec.{ltb}
-use lib.ListN.{length, replicate, length-replicate, get_or-replicate}
 use borrow.Author.Tests.{lt-ltb, le-ltb}
 use Rattle.oce_model.specs.Model.{Model, model_of, connector_count}
 use Rattle.oce_diag.specs.Diagnostics.{errors, has_error}
@@ -17,9 +15,8 @@ use Rattle.oce_diag.proofs.Diagnostics.{no-errors, some-error}
 use Rattle.oce_diag.proofs.Reporting.{puts-within, puts-more}
 use Rattle.unify.specs.Unify.{clusters_faults, propagated, rule6}
 use Rattle.unify_slots.specs.Slots.{SlotTable, filled}
-use Rattle.unify_links.specs.Links.{link_count, Empty}
 use Rattle.unify_cluster.specs.Clusters.{most_cluster_faults}
-use Rattle.unify_clusters.specs.Unified.{Roomy, Unified}
+use Rattle.unify_clusters.specs.Unified.{Unified}
 
 -- what rule 6 adds to a list that holds e errors, by whether there is an error after all roots
 rule6-tested : (m : Model) (e : ℕ) → e + errors (clusters_faults m) ≡ 0 → rule6 m (ltb 0 e) ≡ clusters_faults m ++ propagated m

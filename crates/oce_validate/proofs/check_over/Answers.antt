@@ -1,5 +1,5 @@
 -- `oce_validate::check_over` meets its contract.
-use Rattle.std.proofs.Common.{◌≡◌, ap, arith}
+use Rattle.std.proofs.Common.{◌≡◌, ap}
 use Rattle.unify_slots.specs.Slots.{SlotTable}
 use Rattle.oce_validate.proofs.Laws.{short-report, reported}
 use Rattle.oce_validate.proofs.check_over.Goals as goal

@@ -1,6 +1,5 @@
 -- `unify_clusters::unify_roots` meets its contract.
-use Rattle.std.proofs.Common.{◌≡◌, arith}
-use Rattle.oce_model.specs.Model.{model_of, connector_count}
+use Rattle.std.proofs.Common.{arith}
 use Rattle.unify_clusters.proofs.Roots.{roots-start, roots-room, roots-next, roots-filled, roots-reported}
 use Rattle.unify_clusters.proofs.unify_roots.Goals as goal
 

@@ -1,5 +1,5 @@
 -- `unify_propagated::check_propagated_clusters` meets its contract.
-use Rattle.std.proofs.Common.{◌≡◌, ◌∙◌, ap, arith}
+use Rattle.std.proofs.Common.{arith}
 use Rattle.oce_model.specs.Format.{most_connectors}
 use Rattle.oce_model.specs.Model.{model_of, connector_count}
 use Rattle.oce_diag.proofs.Reporting.{turns-start, turns-next, turns-room}

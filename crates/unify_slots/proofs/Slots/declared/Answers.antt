@@ -1,5 +1,5 @@
 -- `unify_slots::Slots::declared` meets its contract: there is no such slot, or there is.
-use Rattle.std.proofs.Common.{◌∙◌, arith}
+use Rattle.std.proofs.Common.{◌∙◌}
 use Rattle.oce_model.specs.Attributes.{no_attrs}
 use Rattle.unify.specs.Slots.{slot}
 use Rattle.unify_slots.proofs.Laws.{declared-outside}

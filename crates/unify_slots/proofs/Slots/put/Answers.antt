@@ -1,5 +1,4 @@
 -- `unify_slots::Slots::put` meets its contract: a slot that there is.
-use Rattle.std.proofs.Common.{◌≡◌, sym, ap}
 use Rattle.oce_model.specs.Attributes.{no_attrs}
 use Rattle.unify.specs.Slots.{slot}
 use Rattle.unify_slots.proofs.Slots.put.Goals as goal
