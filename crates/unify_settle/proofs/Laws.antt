@@ -2,7 +2,8 @@
 use Prim.Native.Nat.{ℕ, ◌+◌, ◌-◌, ◌≤◌, ◌<◌}
 use native.Mathlib.Numerals.{add-one}
 use native.Mathlib.Omega.{arith}
-use mathlib.Core.Path.{◌≡◌, refl, sym, ◌∙◌}
+use mathlib.Core.Path.{◌≡◌, refl, sym, ap, ◌∙◌}
+use Rattle.std.specs.List.{list_all}
 use mathlib.Core.Bool.{Bool, true, false, cond, not, ◌&&◌}
 use mathlib.Core.List.{List, [], ◌∷◌}
 use Rattle.std.specs.Prelude.{Option, Some, None, Result, Ok, Err, is_err}
@@ -15,7 +16,7 @@ use Rattle.unify.specs.Details.{is_text}
 use Rattle.unify.specs.Slots.{Slots, slot, value, put, key, agree}
 use Rattle.unify.specs.Unify.{cons?, declarations, put_members, settle, fill, conflict}
 use Rattle.unify.specs.declared.Detail.{Detail}
-use Rattle.unify_settle.specs.Settle.{agreed, disagreed}
+use Rattle.unify_settle.specs.Settle.{member_agrees, agreed, disagreed}
 use Rattle.unify_settle.specs.declared.Conflict.{Conflict}
 
 -- ---- agreement
@@ -63,24 +64,15 @@ first-none d σ js i w h = w ∙ rw (drop_of_length-le js h) (declarations-none 
 
 -- ---- agreement with it
 
-module _ (ts : List (List ℕ)) (d : Detail) (v : ℕ) (σ : Slots) (js : List ℕ) (i : ℕ)
-    (w : all (agree ts d v) (declarations d σ js) ≡ all (agree ts d v) (declarations d σ (drop i js))) where
-  module _ (h : i < length js) {x : Option ℕ} (ex : x ≡ value d (slot σ (get_or js i 0))) where
-    pub agree-nothing : x ≡ None → all (agree ts d v) (declarations d σ js) ≡ all (agree ts d v) (declarations d σ (drop (i + 1) js))
-    agree-nothing e = w ∙ rw (declarations-rest d σ js i h, ← ex, e)
-
-    module _ {u : ℕ} (e : x ≡ Some u) {t : Bool} (et : t ≡ agree ts d v u) where
-      pub agree-next : t ≡ true → all (agree ts d v) (declarations d σ js) ≡ all (agree ts d v) (declarations d σ (drop (i + 1) js))
-      unfolding all
-      agree-next f = w ∙ rw (declarations-rest d σ js i h, ← ex, e, ← et, f)
-
-      pub agree-not : t ≡ false → false ≡ all (agree ts d v) (declarations d σ js)
-      unfolding all
-      agree-not f = sym (w ∙ rw (declarations-rest d σ js i h, ← ex, e, ← et, f))
-
-  pub agree-all : length js ≤ i → true ≡ all (agree ts d v) (declarations d σ js)
-  unfolding all
-  agree-all h = sym (w ∙ rw (drop_of_length-le js h, declarations-none d σ))
+pub members-agree : (ts : List (List ℕ)) (d : Detail) (v : ℕ) (σ : Slots) (js : List ℕ)
+    → list_all (λ j. member_agrees ts d v (value d (slot σ j))) js ≡ all (agree ts d v) (declarations d σ js)
+unfolding all declarations
+members-agree ts d v σ [] = refl
+members-agree ts d v σ (j ∷ js) = arm (value d (slot σ j)) (members-agree ts d v σ js)
+  where
+    arm : (o : Option ℕ) {b : Bool} → b ≡ all (agree ts d v) (declarations d σ js) → (member_agrees ts d v o && b) ≡ all (agree ts d v) (cons? o (declarations d σ js))
+    arm None e = e
+    arm (Some u) e = ap (λ b. agree ts d v u && b) e
 
 module _ (ts : List (List ℕ)) (d : Detail) {vs : List ℕ} where
   pub agreed-none : vs ≡ [] → Ok None ≡ agreed ts d vs

@@ -1,5 +1,5 @@
 -- What the code's steps give for one detail of rule 6 over the members of one cluster (FORMAT 16).
-use Rattle.std.specs.Prelude.{ℕ, ◌≡◌, cond, List, [], ◌∷◌, Option, Some, None, Result, Ok, Err}
+use Rattle.std.specs.Prelude.{ℕ, ◌≡◌, Bool, true, cond, List, [], ◌∷◌, Option, Some, None, Result, Ok, Err}
 use Rattle.base.specs.Lists.{all}
 use Rattle.unify.specs.Slots.{Slots, agree}
 use Rattle.unify.specs.Unify.{declarations}
@@ -11,6 +11,11 @@ use Rattle.unify_settle.specs.declared.First.{First}
 abbrev pub FirstOf : Detail → Slots → List ℕ → Option First → Type 0
 FirstOf d σ js None = declarations d σ js ≡ []
 FirstOf d σ js (Some first) = declarations d σ js ≡ first.value ∷ declarations d σ first.rest.now
+
+-- what a member declares, if it does, agrees with v
+abbrev pub member_agrees : List (List ℕ) → Detail → ℕ → Option ℕ → Bool
+member_agrees ts d v None = true
+member_agrees ts d v (Some u) = agree ts d v u
 
 abbrev pub disagreed : Result (Option ℕ) Conflict
 disagreed = Err (record {})

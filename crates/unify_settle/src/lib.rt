@@ -4,10 +4,10 @@
 ghost use Rattle.std.specs.Prelude.{◌≡◌, is_err};
 ghost use Rattle.base.specs.Lists.{all};
 ghost use Rattle.oce_model.specs.Model.{model_of};
-ghost use Rattle.unify.specs.Slots.{agree};
+ghost use Rattle.unify.specs.Slots.{slot, value, agree};
 ghost use Rattle.unify.specs.Unify.{declarations, conflict, put_members, fill};
 ghost use Rattle.unify_slots.specs.Slots.{with_attrs};
-ghost use Rattle.unify_settle.specs.Settle.{FirstOf, agreed};
+ghost use Rattle.unify_settle.specs.Settle.{FirstOf, member_agrees, agreed};
 
 use unify::Detail;
 use unify_slots::Slots;
@@ -49,20 +49,25 @@ fn first_declared<'a>(slots: &Slots, members: &'a [usize], detail: Detail) -> Op
     None
 }
 
+// What member j declares, if anything, agrees with v.
+fn member_agrees(slots: &Slots, j: usize, detail: Detail, v: u64) -> bool
+    ensures { result ≡ member_agrees (model_of slots.now.image).texts detail v (value detail (slot slots.now.attrs j)) }
+{
+    match slots.declared(j, detail) {
+        Some(u) => agrees(slots, detail, v, u),
+        None => true,
+    }
+}
+
 // All that the members declare agrees with v. Inlined: clusters have few members, so that a call for each detail costs
 // as much as its work.
 #[inline(always)]
 fn all_agree(slots: &Slots, members: &[usize], detail: Detail, v: u64) -> bool
     ensures { result ≡ all (agree (model_of slots.now.image).texts detail v) (declarations detail slots.now.attrs members.now) }
 {
-    for j in members {
-        if let Some(u) = slots.declared(*j, detail) {
-            if !agrees(slots, detail, v, u) {
-                return false;
-            }
-        }
-    }
-    true
+    members
+        .iter()
+        .all(|j| member_agrees(slots, *j, detail, v))
 }
 
 // The first value that the members declare for a detail, if all that they declare agrees with it.

@@ -1,24 +1,17 @@
--- `unify_settle::all_agree` meets its contract.
+-- `unify_settle::all_agree` meets its contract: each member is asked once.
+use Rattle.std.proofs.Common.{◌∙◌, rules, tests}
+use Rattle.std.proofs.lemmas.Iterator.{YieldsList-from_slice}
+use Rattle.std.proofs.lemmas.Iterator.Search.{all_from_yields_List}
 use Rattle.oce_model.specs.Model.{model_of}
-use Rattle.unify_settle.proofs.Laws.{agree-nothing, agree-next, agree-not, agree-all}
+use Rattle.unify.specs.Slots.{slot, value}
+use Rattle.unify_settle.specs.Settle.{member_agrees}
+use Rattle.unify_settle.proofs.Laws.{members-agree}
 use Rattle.unify_settle.proofs.all_agree.Goals as goal
-use Rattle.unify_settle.proofs.all_agree.Goals.{in-Some+else-not-agrees, in_default}
-
-pub returns-then-not-agrees : goal.returns-then-not-agrees
-returns-then-not-agrees c =
-    agree-not (model_of c.args.slots.now.image).texts c.args.detail c.args.v c.args.slots.now.attrs c.args.members.now c.loop-j.j-index c.loop-j.invariant c.loop-j-test.true
-    c.declared.ensures c.in-Some.is c.agrees.ensures c.if-not-agrees.true
-
-pub loop-j-preserved : goal.loop-j-preserved
-loop-j-preserved c =
-    let ts = (model_of c.args.slots.now.image).texts in
-    let σ = c.args.slots.now.attrs in
-    let js = c.args.members.now in
-    elim c.match-declared.branch [
-      | in-Some+else-not-agrees w ↦
-          agree-next ts c.args.detail c.args.v σ js c.loop-j.j-index c.loop-j.invariant c.loop-j-test.true c.declared.ensures w.in-Some.is w.agrees.ensures w.if-not-agrees.false
-      | in_default w ↦ agree-nothing ts c.args.detail c.args.v σ js c.loop-j.j-index c.loop-j.invariant c.loop-j-test.true c.declared.ensures w.in_default.is
-    ]
 
 pub returns : goal.returns
-returns c = agree-all (model_of c.args.slots.now.image).texts c.args.detail c.args.v c.args.slots.now.attrs c.args.members.now c.loop-j.j-index c.loop-j.invariant c.loop-j-test.false
+returns c =
+    let t = c.args.slots.now in
+    let ts = (model_of c.args.slots.now.image).texts in
+    let d = c.args.detail in
+    all_from_yields_List (λ j. member_agrees ts d c.args.v (value d (slot t.attrs j))) _ _ _ c.all.ensures.ran (YieldsList-from_slice c.args.members.now cc) (λ x b q k. search (rules, tests))
+    ∙ members-agree ts d c.args.v t.attrs c.args.members.now
