@@ -6,7 +6,8 @@ use native.Mathlib.Omega.{arith}
 use mathlib.Core.Path.{◌≡◌, refl, sym, ◌∙◌}
 use mathlib.Core.Bool.{Bool, true, false, cond}
 use mathlib.Core.List.{[]}
-use Rattle.std.specs.Prelude.{Some, None}
+use Rattle.std.specs.Prelude.{Option, None}
+use Rattle.std.specs.Bool.{then_some}
 use lib.ListN.{length, get_or, get_or-eq_default, set, take}
 use lib.Seq.{take-suc, take-suc-set, take_all}
 use lib.Dec.{eqb}
@@ -59,9 +60,9 @@ module _ (d : Detail) (a : Attrs) {k : ℕ} {t : Bool} (ek : k ≡ kind_of d) (e
   kind-is : eqb a.kind (kind_of d) ≡ t
   kind-is = rw (← ek) (sym et)
 
-  pub declared-other : t ≡ false → None ≡ value d a
+  pub declared-other : t ≡ false → {b : Bool} (v : ℕ) {o : Option ℕ} → o ≡ then_some b v → b ≡ t → o ≡ value d a
   unfolding value
-  declared-other n = rw (kind-is, n)
+  declared-other n v eo eb = eo ∙ rw (eb, kind-is, n)
 
   pub put-other : (v : ℕ) → t ≡ false → a ≡ put d v a
   unfolding put
@@ -74,13 +75,13 @@ module _ (d : Detail) (a : Attrs) {k : ℕ} {t : Bool} (ek : k ≡ kind_of d) (e
     bit-so : bit a.marks (bit_of d) ≡ r
     bit-so = rw (← ep) (sym er)
 
-    pub declared-unmarked : r ≡ false → None ≡ value d a
+    pub declared-kind : {b : Bool} {v : ℕ} {o : Option ℕ} → o ≡ then_some b v → b ≡ r → v ≡ num a p → o ≡ value d a
     unfolding value declared_at
-    declared-unmarked f = rw (kind-so, bit-so, f)
-
-    pub declared-marked : {q v : ℕ} → q ≡ bit_of d → v ≡ num a q → r ≡ true → Some v ≡ value d a
-    unfolding value declared_at
-    declared-marked eq ev t = rw (kind-so, bit-so, t, ev, eq)
+    declared-kind eo eb ev = eo ∙ rw (eb, ev, ep, kind-so, bit-so) (arm r)
+      where
+        arm : (x : Bool) → then_some x (num a (bit_of d)) ≡ marked x (num a (bit_of d))
+        arm true = refl
+        arm false = refl
 
     pub put-marked : (v : ℕ) → r ≡ true → a ≡ put d v a
     unfolding put declared_at

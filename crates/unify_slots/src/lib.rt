@@ -18,11 +18,7 @@ pub fn declared(a: &Attrs, detail: Detail) -> Option<u64>
     ensures { result ≡ value detail a.now }
 {
     let p = detail.bit();
-    if a.has_kind(detail.kind()) && a.is_marked(p) {
-        Some(a.number(p))
-    } else {
-        None
-    }
+    (a.has_kind(detail.kind()) && a.is_marked(p)).then_some(a.number(p))
 }
 
 // Attributes of the kind that declare nothing for a detail take v.
