@@ -5,6 +5,7 @@ ghost use Rattle.std.specs.Prelude.{◌≡◌, ◌<◌, ◌++◌, length, OnOk};
 ghost use Rattle.std.specs.Io.KnownBytes.{Appends};
 ghost use Rattle.printed.specs.Printed.{first_line};
 ghost use Rattle.batch.specs.Fields.{image_in, images};
+ghost use Rattle.batch.specs.Output.{count_of};
 ghost use Rattle.batch.specs.Answer.{output_after};
 ghost use Rattle.printed_batch.specs.PrintedBatch.{image_line, refusal_line, image_text, image_texts, printed_batch};
 ghost use Rattle.print_batch.specs.Printing.{Left, Part};
@@ -12,7 +13,7 @@ ghost use Rattle.print_batch.specs.Reading.{longest_batch, read_output, PrintedA
 
 use arrayvec::ArrayVec;
 use base::part_of;
-use batch::{BatchRefusal, SUMMARY_SIZE, count_of, size_of};
+use batch::{BatchRefusal, SUMMARY_SIZE};
 use batch_check::check_batch;
 use batch_framing::image_in;
 use image_framing::Fields;
@@ -21,7 +22,7 @@ use oce_model::Field;
 use outcome::Answer;
 use print_check::{print_report, read_from};
 use printed_batch::{
-    LONGEST_IMAGE_LINES, LONGEST_REFUSAL_LINE, answer_in, image_lines, refusal_line,
+    LONGEST_IMAGE_LINES, LONGEST_REFUSAL_LINE, answer_in, counted_in, image_lines, refusal_line,
 };
 use std::io;
 use std::io::{Error, ErrorKind, Read, Write};
@@ -58,7 +59,7 @@ fn print_first<W: Write>(to: &mut W, i: u32, answer: Answer) -> io::Result<()>
     to.write_all(&out)
 }
 
-// Prints the image in a field, whose part of the output begins at o with its answer.
+// Prints the image in a field, whose part of the output begins at o with its answer, which counts so many diagnostics.
 fn print_image<W: Write>(
     to: &mut W,
     batch: &[u8],
@@ -66,12 +67,12 @@ fn print_image<W: Write>(
     output: &[u8],
     o: usize,
     answer: Answer,
+    count: usize,
 ) -> io::Result<()>
-    requires { Part batch.now f output.now o answer }
+    requires { Part batch.now f output.now o answer × (count ≡ count_of answer) }
     ensures { OnOk result (Appends (W.contents to.old) (W.contents to.new) (image_text f.ord (image_in batch.now f))) }
 {
     print_first(to, f.ord as u32, answer)?;
-    let count = count_of(answer);
     if count == 0 {
         return Ok(());
     }
@@ -97,8 +98,10 @@ fn print_images<W: Write>(to: &mut W, batch: &[u8], output: &[u8], n: usize) -> 
     let mut o = 0;
     for f in Fields::of(batch) {
         let answer = answer_in(output, o);
-        print_image(to, batch, f, output, o, answer)?;
-        o += size_of(answer);
+        let counted = counted_in(output, o);
+        let count = counted.errors as usize + counted.warnings as usize;
+        print_image(to, batch, f, output, o, answer, count)?;
+        o += SUMMARY_SIZE + DIAGNOSTIC_SIZE * count;
     }
     Ok(())
 }

@@ -1,4 +1,4 @@
--- An answer read back from an output is the one that was written there, that of a single call with the room that the image needs.
+-- Counts and an answer read back from an output are those that were written there, the answer that of a single call with the room that the image needs.
 use Prim.Native.Nat.{ℕ, zero, suc, ◌+◌, ◌<◌, ◌≤◌}
 use native.Mathlib.Omega.{arith}
 use mathlib.Core.Path.{◌≡◌, refl, sym, ◌∙◌}
@@ -22,7 +22,7 @@ use Rattle.outcome.specs.Answer.{Answer, report_of, report_size, answer_for, ans
 use Rattle.batch.specs.Output.{summary_tag, summary_length, size_of, no_refusal, none_counted, summary_by, summary_of, summary_field, summary_bytes, image_output, refusal_place, offset_place, errors_place, warnings_place}
 use Rattle.batch.proofs.Sizes.{output-long}
 use Rattle.printed_batch.specs.PrintedBatch.{answer_alone}
-use Rattle.printed_batch.specs.ReadBack.{answer_in, SmallRefusal, Fitting}
+use Rattle.printed_batch.specs.ReadBack.{counted_in, answer_in, SmallRefusal, Fitting, counted_of}
 
 -- ---- the bytes of an answer's field
 
@@ -53,19 +53,29 @@ module _ (r : Refusal) (c : Counted) (b : List ℕ) where
   unfolding summary_field before-warnings before-errors before-offset le_bytes
   warnings-back h = le-append-right 4 (before-warnings r c) (le_bytes 4 c.warnings ++ b) 0 ∙ le-bytes 4 c.warnings b h
 
--- reading them gives the answer back
+-- reading them gives the counts and the answer back
+pub counted-back : (a : Answer) (b : List ℕ) → Fitting a → counted_in (summary_bytes a ++ b) 0 ≡ counted_of a
+unfolding counted_in
+counted-back (Err r) b f = rw (errors-back r none_counted b (omega arith), warnings-back r none_counted b (omega arith))
+counted-back (Ok c) b f = rw (errors-back no_refusal c b f.0, warnings-back no_refusal c b f.1)
+
 pub answer-back : (a : Answer) (b : List ℕ) → Fitting a → answer_in (summary_bytes a ++ b) 0 ≡ a
 unfolding answer_in
 answer-back (Err r) b f = rw (number-back r none_counted b f.few, ne_eqb r.number 0 f.positive, offset-back r none_counted b f.near)
-answer-back (Ok c) b f = rw (number-back no_refusal c b (omega arith), errors-back no_refusal c b f.0, warnings-back no_refusal c b f.1)
+answer-back (Ok c) b f = rw (number-back no_refusal c b (omega arith), counted-back (Ok c) b f)
 
 -- an offset of an output, and the start of what is left from there on
-pub answer-there : (b : List ℕ) (o : ℕ) → answer_in b o ≡ answer_in (drop o b) 0
-unfolding answer_in
-answer-there b o = rw (sym (get_or-drop o b refusal_place 0), number offset_place, number errors_place, number warnings_place)
-  where
-    number : (k : ℕ) → le32 b (o + k) ≡ le32 (drop o b) k
-    number k = le_same 4 b (drop o b) (o + k) k (λ i h. (let e : o + k + i ≡ o + (k + i) = omega arith in rw e (sym (get_or-drop o b (k + i) 0))))
+module _ (b : List ℕ) (o : ℕ) where
+  number-there : (k : ℕ) → le32 b (o + k) ≡ le32 (drop o b) k
+  number-there k = le_same 4 b (drop o b) (o + k) k (λ i h. (let e : o + k + i ≡ o + (k + i) = omega arith in rw e (sym (get_or-drop o b (k + i) 0))))
+
+  pub counted-there : counted_in b o ≡ counted_in (drop o b) 0
+  unfolding counted_in
+  counted-there = rw (number-there errors_place, number-there warnings_place)
+
+  pub answer-there : answer_in b o ≡ answer_in (drop o b) 0
+  unfolding answer_in
+  answer-there = rw (sym (get_or-drop o b refusal_place 0), number-there offset_place, counted-there)
 
 -- ---- refusals of an image: a number from 1 to 8, and an offset that an image can have
 

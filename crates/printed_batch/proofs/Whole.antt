@@ -18,10 +18,11 @@ use Rattle.oce_model.specs.Refusals.{refusal}
 use Rattle.oce_model.specs.declared.Refusal.{Refusal}
 use Rattle.oce_model.specs.declared.Field.{Field}
 use Rattle.oce_diag.specs.Encoding.{report_bytes}
+use Rattle.oce_diag.specs.Putting.{total}
 use Rattle.oce_diag.specs.Decoded.{AllFitting}
 use Rattle.oce_diag.specs.declared.Diagnostic.{Diagnostic}
 use Rattle.oce_diag.proofs.Diagnostics.{errors-warnings}
-use Rattle.outcome.specs.Answer.{report_of}
+use Rattle.outcome.specs.Answer.{Answer, report_of}
 use Rattle.printed.specs.Printed.{first_line, printed, lines, lines_from}
 use Rattle.printed.proofs.Whole.{lines-whole}
 use Rattle.printed.proofs.Rules.{report_of-fits}
@@ -29,11 +30,15 @@ use Rattle.batch.specs.Fields.{first_fault, image_in, images}
 use Rattle.batch.specs.Output.{summary_size, count_of, size_of, summary_by, summary_of, summary_bytes, report_by, image_report, image_output, output_of, batch_output, bytes_needed}
 use Rattle.batch.specs.Answer.{BatchAnswer, answer_with, batch_answer_for, batch_answer, output_after}
 use Rattle.printed_batch.specs.PrintedBatch.{image_line, image_text, image_texts, printed_batch}
-use Rattle.printed_batch.specs.ReadBack.{answer_in, image_pieces, pieces}
+use Rattle.printed_batch.specs.ReadBack.{counted_in, answer_in, counted_of, image_pieces, pieces}
 use Rattle.batch.proofs.Sizes.{summary_bytes-length, output-long}
-use Rattle.printed_batch.proofs.ReadBack.{answer-back, summary-fits, answer-single}
+use Rattle.printed_batch.proofs.ReadBack.{counted-back, answer-back, summary-fits, answer-single}
 
 -- ---- one image's part of an output, and what stands behind it
+
+total-counted : (a : Answer) → total (counted_of a) ≡ count_of a
+total-counted (Err r) = refl
+total-counted (Ok c) = refl
 
 module _ (t b : List ℕ) where
   apart : image_output t ++ b ≡ summary_bytes (summary_of t) ++ (image_report t ++ b)
@@ -43,6 +48,10 @@ module _ (t b : List ℕ) where
   -- the answer that is read there is the image's
   pub answer-first : length (image_output t) < word_range → answer_in (image_output t ++ b) 0 ≡ summary_of t
   answer-first l = rw apart (answer-back (summary_of t) (image_report t ++ b) (summary-fits t l))
+
+  -- and so many diagnostics are counted there
+  pub count-first : length (image_output t) < word_range → total (counted_in (image_output t ++ b) 0) ≡ count_of (summary_of t)
+  count-first l = rw (apart, counted-back (summary_of t) (image_report t ++ b) (summary-fits t l)) (total-counted (summary_of t))
 
   -- behind its field stands its report
   pub report-first : drop summary_size (image_output t ++ b) ≡ image_report t ++ b
@@ -76,7 +85,7 @@ printed-there t b f = arm (refusal t) refl
 pub image-whole : (i : ℕ) (t b : List ℕ) → ((k : ℕ) → byte t k < byte_range) → length (image_output t) < word_range → image_pieces i t (image_output t ++ b) ≡ image_text i t
 unfolding image_pieces image_text
 image-whole i t b f l =
-    rw (answer-first t b l, report-first t b)
+    rw (answer-first t b l, count-first t b l, report-first t b)
     (append_assoc (image_line i) (first_line (summary_of t)) (lines_from t (image_report t ++ b) 0 (count_of (summary_of t)))
     ∙ ap (λ (l : List ℕ). image_line i ++ l) (printed-there t b f ∙ ap (printed t) (answer-single t)))
 
@@ -125,7 +134,7 @@ module _ (s : List ℕ) (bytes : (i : ℕ) → byte s i < byte_range) where
       let t = image_in s f in
       let later = output_of (map (image_in s) fs) in
       let n : length (image_output t ++ later) ≡ length (image_output t) + length later = length-append (image_output t) later in
-      rw (append_assoc (image_output t) later b, answer-first t (later ++ b) (omega arith), next-first t (later ++ b), image-whole i t (later ++ b) (image-bytes f) (omega arith), pieces_whole (i + 1) fs b (omega arith))
+      rw (append_assoc (image_output t) later b, count-first t (later ++ b) (omega arith), next-first t (later ++ b), image-whole i t (later ++ b) (image-bytes f) (omega arith), pieces_whole (i + 1) fs b (omega arith))
 
   -- all that is printed for a batch that isn't refused: what is printed of the output that the call leaves, image by image
   pub batch-whole : (o : List ℕ) (n : ℕ) → batch_answer s (length o) ≡ Ok n → n < word_range → printed_batch s (length o) ≡ pieces 0 (images s) (output_after s o)

@@ -1,4 +1,5 @@
-// The lines that are printed for a batch, put behind those of a text that has room for them; and answers read back from its output.
+// The lines that are printed for a batch, put behind those of a text that has room for them; and counts and answers
+// read back from its output.
 #![tactic(auto)]
 
 ghost use Rattle.std.specs.Prelude.{◌≡◌, ◌++◌, ◌+◌, ◌<◌, ◌≤◌};
@@ -7,12 +8,12 @@ ghost use Rattle.numbers.specs.Bytes.{long_range};
 ghost use Rattle.batch.specs.Output.{summary_size};
 ghost use Rattle.printed.specs.Printed.{first_line};
 ghost use Rattle.printed_batch.specs.PrintedBatch.{image_line, refusal_line, longest_image_lines, longest_refusal_line};
-ghost use Rattle.printed_batch.specs.ReadBack.{answer_in};
+ghost use Rattle.printed_batch.specs.ReadBack.{counted_in, answer_in};
 
 use arrayvec::ArrayVec;
 use batch::{BatchRefusal, ERRORS_PLACE, OFFSET_PLACE, REFUSAL_PLACE, WARNINGS_PLACE};
 use decimal::{put_bytes, put_labelled};
-use numbers::{LittleEndian, byte_at};
+use numbers::LittleEndian;
 use oce_diag::Counted;
 use oce_model::Refusal;
 use outcome::Answer;
@@ -50,21 +51,30 @@ pub fn refusal_line<const CAP: usize>(refusal: BatchRefusal, out: &mut ArrayVec<
 
 // ---- answers
 
-// The answer for an image, whose field begins at an offset of an output: number 0 is no refusal.
+// The counts in the field that begins at an offset of an output, whatever its refusal is.
+#[tactic(auto, unfolding(crate::specs::ReadBack::counted_in))]
+pub fn counted_in(output: &[u8], o: usize) -> Counted
+    requires { o + summary_size < long_range }
+    ensures { result ≡ counted_in output.now o }
+{
+    Counted {
+        errors: u32::read_padded(output, o + ERRORS_PLACE),
+        warnings: u32::read_padded(output, o + WARNINGS_PLACE),
+    }
+}
+
+// The answer that such a field stands for: number 0 is no refusal.
 #[tactic(auto, unfolding(crate::specs::ReadBack::answer_in))]
 pub fn answer_in(output: &[u8], o: usize) -> Answer
     requires { o + summary_size < long_range }
     ensures { result ≡ answer_in output.now o }
 {
-    let number = byte_at(output, o + REFUSAL_PLACE);
+    let number = u8::read_padded(output, o + REFUSAL_PLACE);
     if number == 0 {
-        return Ok(Counted {
-            errors: u32::read_padded(output, o + ERRORS_PLACE),
-            warnings: u32::read_padded(output, o + WARNINGS_PLACE),
-        });
+        return Ok(counted_in(output, o));
     }
     Err(Refusal {
-        number: number as u32,
+        number: u32::from(number),
         offset: u32::read_padded(output, o + OFFSET_PLACE),
     })
 }
