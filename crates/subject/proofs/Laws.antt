@@ -18,8 +18,7 @@ use Rattle.decimal.specs.Decimal.{decimal}
 use Rattle.decimal.proofs.Decimal.{decimal-few}
 use Rattle.oce_diag.specs.Decoded.{subject_from}
 use Rattle.oce_diag.specs.Diagnostics.{connector_id, block_id}
-use Rattle.oce_diag.specs.Encoding.{text_subject_kind, connector_subject_kind, block_subject_kind, subject_kind, subject_number}
-use Rattle.oce_diag.specs.declared.Subject.{Subject}
+use Rattle.oce_diag.specs.Encoding.{text_subject_kind, connector_subject_kind, block_subject_kind}
 use Rattle.oce_diag.specs.declared.Subject.TheVariants.{Nothing, Text, Connector, Block}
 use Rattle.subject.specs.Subject.{connector_label, block_label, least_scratch, labelled, label, subject_text, if_room, written, scratch_after, part_of, part}
 
@@ -33,9 +32,9 @@ module _ (xs bs : List ℕ) where
 -- ---- a subject's kind and number
 
 module _ (kind n : ℕ) where
-  pub label-from : label (subject_from kind n) ≡ labelled kind n
+  pub label_from : label (subject_from kind n) ≡ labelled kind n
   unfolding labelled subject_from
-  label-from = first (eqb kind text_subject_kind) refl
+  label_from = first (eqb kind text_subject_kind) refl
     where
       other : (b c : Bool) → label (cond b (Connector (connector_id n)) (cond c (Block (block_id n)) Nothing)) ≡ cond b (connector_label ++ decimal n) (cond c (block_label ++ decimal n) [])
       other true c = refl
@@ -48,24 +47,28 @@ module _ (kind n : ℕ) where
       first true e = rw (eqb-true kind text_subject_kind e) refl
       first false e = other (eqb kind connector_subject_kind) (eqb kind block_subject_kind)
 
-  pub part-from : (s xs : List ℕ) → part_of s xs (subject_kind (subject_from kind n)) (subject_number (subject_from kind n)) ≡ part_of s xs kind n
-  unfolding part_of subject_from
-  part-from s xs = rw label-from (first (eqb kind text_subject_kind) refl)
-    where
-      t : List ℕ
-      t = take (length (if_room xs (labelled kind n))) xs
+  -- a text's part is the text, another's is read from the scratch
+  module _ (s xs : List ℕ) where
+    abbrev pub of : Bool → List ℕ
+    of b = cond b (text (model_of s) n) (take (length (if_room xs (labelled kind n))) xs)
 
-      of : Subject → List ℕ
-      of x = cond (eqb (subject_kind x) text_subject_kind) (text (model_of s) (subject_number x)) t
+    pub text-part : {t : ℕ} → subject_from kind n ≡ Text t → text (model_of s) t ≡ part_of s xs kind n
+    unfolding part_of subject_from
+    text-part {t} = arm (eqb kind text_subject_kind) (eqb kind connector_subject_kind) (eqb kind block_subject_kind)
+      where
+        arm : (a b c : Bool) → cond a (Text n) (cond b (Connector (connector_id n)) (cond c (Block (block_id n)) Nothing)) ≡ Text t → text (model_of s) t ≡ of a
+        arm true b c e = let q : n ≡ t = cc in rw q
+        arm false true c e = cc
+        arm false false true e = cc
+        arm false false false e = cc
 
-      other : (b c : Bool) → of (cond b (Connector (connector_id n)) (cond c (Block (block_id n)) Nothing)) ≡ t
-      other true c = refl
-      other false true = refl
-      other false false = refl
-
-      first : (a : Bool) → eqb kind text_subject_kind ≡ a → of (subject_from kind n) ≡ cond a (text (model_of s) n) t
-      first true e = rw e refl
-      first false e = rw e (other (eqb kind connector_subject_kind) (eqb kind block_subject_kind))
+    pub other-part : ((t : ℕ) → subject_from kind n ≡ Text t → ⊥) → of false ≡ part_of s xs kind n
+    unfolding part_of subject_from
+    other-part = arm (eqb kind text_subject_kind)
+      where
+        arm : (a : Bool) → ((t : ℕ) → cond a (Text n) (cond (eqb kind connector_subject_kind) (Connector (connector_id n)) (cond (eqb kind block_subject_kind) (Block (block_id n)) Nothing)) ≡ Text t → ⊥) → of false ≡ of a
+        arm true h = absurd (h n refl)
+        arm false h = refl
 
 -- ---- reading after writing
 

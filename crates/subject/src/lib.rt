@@ -4,14 +4,12 @@
 ghost use Rattle.std.specs.Prelude.{◌≡◌, ◌+◌, ◌≤◌, ◌++◌, length, take};
 ghost use Rattle.arrayvec.specs.ArrayVec.{array_vec_len};
 ghost use Rattle.base.specs.Buffers.{starts_with};
-ghost use Rattle.oce_diag.specs.Encoding.{subject_kind, subject_number};
-ghost use Rattle.subject.specs.Subject.{label, least_scratch, if_room, written, scratch_after, part_of, part};
+ghost use Rattle.subject.specs.Subject.{labelled, label, least_scratch, if_room, written, scratch_after, part_of, part};
 
 use arrayvec::ArrayVec;
 use decimal::put_labelled;
-use image_records::Image;
+use image_records::{Image, Tables};
 use oce_diag::{Subject, subject_from};
-use oce_model::{MOST_BLOCKS, MOST_TEXTS};
 
 // The longest label with the longest id has as many bytes.
 pub const LEAST_SCRATCH: usize = 20;
@@ -32,38 +30,39 @@ pub fn put_label<const CAP: usize>(out: &mut ArrayVec<u8, CAP>, subject: Subject
     }
 }
 
-// The same alone.
-fn label_of(subject: Subject) -> ArrayVec<u8, LEAST_SCRATCH>
-    ensures { result.items ≡ label subject }
+// The same alone, of a kind and a number.
+#[tactic(auto, using(crate::proofs::Laws::label_from))]
+fn label_of(kind: u8, number: u32) -> ArrayVec<u8, LEAST_SCRATCH>
+    ensures { result.items ≡ labelled kind number }
 {
     let mut label = ArrayVec::new();
-    put_label(&mut label, subject);
+    put_label(&mut label, subject_from(kind, number));
     label
 }
 
 // Puts the same at the start of the scratch, where it has room, and gives the length written.
 #[tactic(auto, unfolding(crate::specs::Subject::if_room, base::specs::Buffers::starts_with))]
-fn write_label(subject: Subject, scratch: &mut [u8]) -> usize
-    ensures length { result ≡ length (if_room scratch.old (label subject)) }
-    ensures scratch { scratch.new ≡ starts_with (if_room scratch.old (label subject)) scratch.old }
+pub fn write_label(kind: u8, number: u32, scratch: &mut [u8]) -> usize
+    ensures length { result ≡ length (if_room scratch.old (labelled kind number)) }
+    ensures scratch { scratch.new ≡ starts_with (if_room scratch.old (labelled kind number)) scratch.old }
 {
     if scratch.len() < LEAST_SCRATCH {
         return 0;
     }
-    let label = label_of(subject);
+    let label = label_of(kind, number);
     scratch[..label.len()].copy_from_slice(&label);
     label.len()
 }
 
 // And read from there.
 #[tactic(auto, unfolding(crate::specs::Subject::if_room))]
-fn read_label(scratch: &[u8], subject: Subject) -> &[u8]
-    ensures { result.now ≡ take (length (if_room scratch.now (label subject))) scratch.now }
+fn read_label(scratch: &[u8], kind: u8, number: u32) -> &[u8]
+    ensures { result.now ≡ take (length (if_room scratch.now (labelled kind number))) scratch.now }
 {
     if scratch.len() < LEAST_SCRATCH {
         return &[];
     }
-    &scratch[..label_of(subject).len()]
+    &scratch[..label_of(kind, number).len()]
 }
 
 // ---- the two calls
@@ -71,12 +70,17 @@ fn read_label(scratch: &[u8], subject: Subject) -> &[u8]
 // Hands out a subject's text of an accepted image: a part of the image, or of the scratch that `write_label`
 // wrote.
 #[tactic(auto, unfolding(crate::specs::Subject::part_of))]
-fn accepted_subject<'a>(image: &Image<'a, '_>, scratch: &'a [u8], subject: Subject) -> &'a [u8]
-    ensures { result.now ≡ part_of image.now scratch.now (subject_kind subject) (subject_number subject) }
+pub fn accepted_subject<'a>(
+    image: &Image<'a, '_>,
+    scratch: &'a [u8],
+    kind: u8,
+    number: u32,
+) -> &'a [u8]
+    ensures { result.now ≡ part_of image.now scratch.now kind number }
 {
-    match subject {
+    match subject_from(kind, number) {
         Subject::Text(t) => image.text(t as usize),
-        _ => read_label(scratch, subject),
+        _ => read_label(scratch, kind, number),
     }
 }
 
@@ -86,10 +90,9 @@ pub fn write_subject(image: &[u8], kind: u8, number: u32, scratch: &mut [u8]) ->
     ensures length { result ≡ length (written image.now kind number scratch.old) }
     ensures scratch { scratch.new ≡ scratch_after image.now kind number scratch.old }
 {
-    let mut texts = [0usize; MOST_TEXTS];
-    let mut blocks = [0usize; MOST_BLOCKS];
-    match Image::accept(image, &mut texts, &mut blocks) {
-        Ok(_) => write_label(subject_from(kind, number), scratch),
+    let mut tables = Tables::EMPTY;
+    match Image::accept(image, &mut tables) {
+        Ok(_) => write_label(kind, number, scratch),
         Err(_) => 0,
     }
 }
@@ -98,10 +101,9 @@ pub fn write_subject(image: &[u8], kind: u8, number: u32, scratch: &mut [u8]) ->
 pub fn subject<'a>(image: &'a [u8], scratch: &'a [u8], kind: u8, number: u32) -> &'a [u8]
     ensures { result.now ≡ part image.now scratch.now kind number }
 {
-    let mut texts = [0usize; MOST_TEXTS];
-    let mut blocks = [0usize; MOST_BLOCKS];
-    match Image::accept(image, &mut texts, &mut blocks) {
-        Ok(accepted) => accepted_subject(&accepted, scratch, subject_from(kind, number)),
+    let mut tables = Tables::EMPTY;
+    match Image::accept(image, &mut tables) {
+        Ok(accepted) => accepted_subject(&accepted, scratch, kind, number),
         Err(_) => &[],
     }
 }

@@ -2,16 +2,15 @@
 use Rattle.std.proofs.Common.{refl, sym}
 use Rattle.base.proofs.Buffers.{starts_with-none}
 use Rattle.subject.specs.Subject.{written, scratch_after}
-use Rattle.subject.proofs.Laws.{label-from}
 use Rattle.subject.proofs.write_subject.Goals as goal
 
 pub returns-in-Ok-clause-length : goal.returns-in-Ok-clause-length
 unfolding written
-returns-in-Ok-clause-length c = rw (c.in-Ok.ensures.1, c.write_label.ensures.length, c.subject_from.ensures, label-from _ _) refl
+returns-in-Ok-clause-length c = rw (c.in-Ok.ensures.1, c.write_label.ensures.length) refl
 
 pub returns-in-Ok-clause-scratch : goal.returns-in-Ok-clause-scratch
 unfolding scratch_after written
-returns-in-Ok-clause-scratch c = rw (c.in-Ok.ensures.1, c.write_label.ensures.scratch, c.subject_from.ensures, label-from _ _) refl
+returns-in-Ok-clause-scratch c = rw (c.in-Ok.ensures.1, c.write_label.ensures.scratch) refl
 
 pub returns-in-Err-clause-length : goal.returns-in-Err-clause-length
 unfolding written
