@@ -86,10 +86,14 @@ unfoldable pub lines : List ℕ → List Diagnostic → List ℕ
 lines s [] = []
 lines s (d ∷ ds) = line s d ++ lines s ds
 
+-- a refusal: its number, and the digits of its offset
+abbrev pub refused_line : ℕ → List ℕ → List ℕ
+refused_line number digits = (refused_label ++ decimal number) ++ (at_label ++ digits) ++ newline
+
 -- the first line: the counts, or a refusal's number and offset, and then no other line
 unfoldable pub first_line : Answer → List ℕ
 first_line (Ok c) = (errors_label ++ decimal c.errors) ++ (warnings_label ++ decimal c.warnings) ++ newline
-first_line (Err r) = (refused_label ++ decimal r.number) ++ (at_label ++ decimal r.offset) ++ newline
+first_line (Err r) = refused_line r.number (decimal r.offset)
 
 -- all that is printed for an image and its answer
 unfoldable pub printed : List ℕ → Answer → List ℕ
@@ -121,6 +125,10 @@ longest_end = 1 + longest_text + 1
 -- no line is longer, whatever the numbers of a diagnostic
 abbrev pub longest_line : ℕ
 longest_line = longest_names + longest_rule + (1 + most_digits) + longest_end
+
+-- of a refusal whose offset has at most so many digits
+abbrev pub longest_refused : ℕ → ℕ
+longest_refused most = length refused_label + most_digits + length at_label + most + length newline
 
 -- the counts with two numbers; a refusal is shorter
 abbrev pub longest_first_line : ℕ

@@ -5,11 +5,11 @@ ghost use Rattle.std.specs.Prelude.{◌≡◌, ◌+◌, ◌<◌, ◌≤◌, ◌+
 ghost use Rattle.arrayvec.specs.ArrayVec.{array_vec_len};
 ghost use Rattle.numbers.specs.Bytes.{word_range};
 ghost use Rattle.oce_model.specs.Format.{longest_text};
-ghost use Rattle.printed.specs.Printed.{severity_name, code_name, names, rule_and_detail, subject_field, line_end, line, first_line, longest_severity, longest_code, longest_names, longest_rule, longest_end, longest_line, longest_first_line};
+ghost use Rattle.printed.specs.Printed.{severity_name, code_name, names, rule_and_detail, subject_field, line_end, line, refused_line, first_line, longest_severity, longest_code, longest_names, longest_rule, longest_end, longest_line, longest_refused, longest_first_line};
 ghost use Rattle.printed.specs.Pieces.{Pieced, Row};
 
 use arrayvec::ArrayVec;
-use decimal::{put_bytes, put_labelled};
+use decimal::{Number, put_bytes, put_labelled};
 use image_records::Image;
 use oce_diag::{DIAGNOSTIC_SIZE, DiagCode, Diagnostic, Severity, Subject, decode};
 use outcome::Answer;
@@ -110,6 +110,20 @@ fn put_line<const CAP: usize>(image: &Image, out: &mut ArrayVec<u8, CAP>, d: Dia
     put_end(image, out, d.subject);
 }
 
+// The line of a refusal: its number, and an offset of any width.
+pub fn put_refusal<N: Number, const CAP: usize>(
+    out: &mut ArrayVec<u8, CAP>,
+    number: u32,
+    offset: N,
+)
+    requires { array_vec_len out.old + longest_refused N.most ≤ CAP }
+    ensures { out.new.items ≡ out.old.items ++ refused_line number (N.digits offset) }
+{
+    put_labelled(out, b"refused ", number);
+    put_labelled(out, b" at ", offset);
+    put_bytes(out, b"\n");
+}
+
 // The first line: the counts, or the refusal.
 #[tactic(auto, unfolding(crate::specs::Printed::first_line))]
 pub fn first_line<const CAP: usize>(answer: Answer, out: &mut ArrayVec<u8, CAP>)
@@ -122,11 +136,7 @@ pub fn first_line<const CAP: usize>(answer: Answer, out: &mut ArrayVec<u8, CAP>)
             put_labelled(out, b" warnings ", counted.warnings);
             put_bytes(out, b"\n");
         }
-        Err(refusal) => {
-            put_labelled(out, b"refused ", refusal.number);
-            put_labelled(out, b" at ", refusal.offset);
-            put_bytes(out, b"\n");
-        }
+        Err(refusal) => put_refusal(out, refusal.number, refusal.offset),
     }
 }
 

@@ -2,7 +2,7 @@
 use Rattle.std.specs.Prelude.{ℕ, ◌+◌, List, [], ◌∷◌, ◌++◌, length, Ok, Err}
 use Rattle.decimal.specs.Decimal.{decimal, wide_decimal, most_digits, most_wide_digits}
 use Rattle.outcome.specs.Answer.{Answer, report_of, report_size, answer}
-use Rattle.printed.specs.Printed.{newline, refused_label, at_label, printed, longest_first_line}
+use Rattle.printed.specs.Printed.{newline, refused_line, printed, longest_refused, longest_first_line}
 use Rattle.batch.specs.Fields.{images}
 use Rattle.batch.specs.Answer.{BatchAnswer, batch_answer}
 use Rattle.batch.specs.declared.BatchRefusal.{BatchRefusal}
@@ -19,7 +19,7 @@ image_line i = (image_label ++ decimal i) ++ newline
 
 -- the line of a refused batch: number and offset, or the bytes needed, which may be more than four bytes hold
 unfoldable pub refusal_line : BatchRefusal → List ℕ
-refusal_line r = (refused_label ++ decimal r.number) ++ (at_label ++ wide_decimal r.offset) ++ newline
+refusal_line r = refused_line r.number (wide_decimal r.offset)
 
 -- ---- texts
 
@@ -55,4 +55,4 @@ abbrev pub longest_image_lines : ℕ
 longest_image_lines = longest_image_line + longest_first_line
 
 abbrev pub longest_refusal_line : ℕ
-longest_refusal_line = length refused_label + most_digits + length at_label + most_wide_digits + length newline
+longest_refusal_line = longest_refused most_wide_digits

@@ -17,7 +17,7 @@ use numbers::LittleEndian;
 use oce_diag::Counted;
 use oce_model::Refusal;
 use outcome::Answer;
-use printed::first_line;
+use printed::{first_line, put_refusal};
 
 // No two first lines of an image are longer.
 pub const LONGEST_IMAGE_LINES: usize = 55;
@@ -44,9 +44,7 @@ pub fn refusal_line<const CAP: usize>(refusal: BatchRefusal, out: &mut ArrayVec<
     requires { array_vec_len out.old + longest_refusal_line ≤ CAP }
     ensures { out.new.items ≡ out.old.items ++ refusal_line refusal }
 {
-    put_labelled(out, b"refused ", refusal.number);
-    put_labelled(out, b" at ", refusal.offset as u64);
-    put_bytes(out, b"\n");
+    put_refusal(out, refusal.number, refusal.offset as u64);
 }
 
 // ---- answers
