@@ -24,16 +24,16 @@ summary_size = leading_bytes + summary_length
 
 -- where its numbers stand in it, from its tag
 abbrev pub refusal_place : ℕ
-refusal_place = 3
+refusal_place = leading_bytes
 
 abbrev pub offset_place : ℕ
-offset_place = 4
+offset_place = refusal_place + 1
 
 abbrev pub errors_place : ℕ
-errors_place = 8
+errors_place = offset_place + 4
 
 abbrev pub warnings_place : ℕ
-warnings_place = 12
+warnings_place = errors_place + 4
 
 -- What sums up an image is the answer for it with all the room that it needs: its refusal if it is turned away, otherwise its report's errors and warnings.
 abbrev pub summary_by : List ℕ → Option Refusal → Answer

@@ -34,13 +34,13 @@ pub const SUMMARY_SIZE: usize = LEADING_BYTES + SUMMARY_LENGTH;
 
 // where the numbers stand in the field of a summary
 
-pub const REFUSAL_PLACE: usize = 3;
+pub const REFUSAL_PLACE: usize = LEADING_BYTES;
 
-pub const OFFSET_PLACE: usize = 4;
+pub const OFFSET_PLACE: usize = REFUSAL_PLACE + 1;
 
-pub const ERRORS_PLACE: usize = 8;
+pub const ERRORS_PLACE: usize = OFFSET_PLACE + 4;
 
-pub const WARNINGS_PLACE: usize = 12;
+pub const WARNINGS_PLACE: usize = ERRORS_PLACE + 4;
 
 // Where there is no refusal, and where nothing is counted.
 pub const NO_REFUSAL: Refusal = Refusal {
@@ -58,7 +58,7 @@ pub fn count_of(answer: Answer) -> usize
     ensures { (result ≡ count_of answer) × (result < word_range + word_range) }
 {
     match answer {
-        Ok(counted) => counted.errors as usize + counted.warnings as usize,
+        Ok(counted) => counted.total(),
         Err(_) => 0,
     }
 }

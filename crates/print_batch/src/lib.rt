@@ -98,8 +98,7 @@ fn print_images<W: Write>(to: &mut W, batch: &[u8], output: &[u8], n: usize) -> 
     let mut o = 0;
     for f in Fields::of(batch) {
         let answer = answer_in(output, o);
-        let counted = counted_in(output, o);
-        let count = counted.errors as usize + counted.warnings as usize;
+        let count = counted_in(output, o).total();
         print_image(to, batch, f, output, o, answer, count)?;
         o += SUMMARY_SIZE + DIAGNOSTIC_SIZE * count;
     }
