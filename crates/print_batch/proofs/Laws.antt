@@ -17,7 +17,6 @@ use Rattle.oce_model.specs.declared.Refusal.{Refusal}
 use Rattle.oce_model.specs.declared.Field.{Field}
 use Rattle.oce_diag.specs.Encoding.{diagnostic_size, report_bytes}
 use Rattle.oce_diag.specs.Putting.{total}
-use Rattle.oce_diag.specs.declared.Counted.{Counted}
 use Rattle.oce_diag.proofs.Diagnostics.{errors-warnings}
 use Rattle.outcome.specs.Answer.{Answer, report_of}
 use Rattle.printed.specs.Pieces.{Row}
@@ -112,18 +111,18 @@ module _ {s out : List ℕ} {rest : List Field} {o : ℕ} {old new : Known (List
     pub printing-room : o + summary_size < long_range
     printing-room = let l = low in let e = size in omega arith
 
-    module _ {a : Answer} (e : a ≡ answer_in out o) {c : Counted} (z : c ≡ counted_in out o) where
+    module _ {a : Answer} (e : a ≡ answer_in out o) {k : ℕ} (z : k ≡ total (counted_in out o)) where
       is : a ≡ summary_of t
       is = let l = low in e ∙ answer-there out o ∙ ap (λ (b : List ℕ). answer_in b 0) here ∙ answer-first t more (omega arith)
 
       -- as many diagnostics are counted as the answer counts
-      count : total c ≡ count_of a
+      count : k ≡ count_of a
       count = let l = low in rw (z, is, counted-there out o, here) (count-first t more (omega arith))
 
-      pub printing-end : o + (summary_size + diagnostic_size * total c) < word_range
+      pub printing-end : o + (summary_size + diagnostic_size * k) < word_range
       printing-end = let l = low in let n = size in rw (count, is) (omega arith)
 
-      pub printing-part : Part s f out o a × (total c ≡ count_of a)
+      pub printing-part : Part s f out o a × (k ≡ count_of a)
       unfolding t
       printing-part =
           let there : drop (o + summary_size) out ≡ image_report t ++ more = sym (drop-drop summary_size o out) ∙ ap (drop summary_size) here ∙ report-first t more in
@@ -137,12 +136,12 @@ module _ {s out : List ℕ} {rest : List Field} {o : ℕ} {old new : Known (List
             row = rw (is, taken) (row-there t);
           }, count)
 
-      pub printing-turn : {next : Known (List ℕ)} → Appends new next (image_text f.ord (image_in s f)) → Printing s out later (o + (summary_size + diagnostic_size * total c)) old next
+      pub printing-turn : {next : Known (List ℕ)} → Appends new next (image_text f.ord (image_in s f)) → Printing s out later (o + (summary_size + diagnostic_size * k)) old next
       unfolding more image_texts
       printing-turn {next = next} w =
-          let m : summary_size + diagnostic_size * total c ≡ size_of (summary_of t) = ap (λ n. summary_size + diagnostic_size * n) count ∙ ap size_of is in
+          let m : summary_size + diagnostic_size * k ≡ size_of (summary_of t) = ap (λ n. summary_size + diagnostic_size * n) count ∙ ap size_of is in
           let l = low in
-          let k = size in
+          let big = size in
           record {
             i = v.i + 1;
             ahead = ahead-next v.ahead q;

@@ -1,19 +1,17 @@
 // A batch of images checked, and its report printed, image by image.
 #![tactic(auto)]
 
-ghost use Rattle.std.specs.Prelude.{◌≡◌, ◌<◌, ◌++◌, length, OnOk};
+ghost use Rattle.std.specs.Prelude.{◌≡◌, ◌<◌, length, OnOk};
 ghost use Rattle.std.specs.Io.KnownBytes.{Appends};
-ghost use Rattle.printed.specs.Printed.{first_line};
 ghost use Rattle.batch.specs.Fields.{image_in, images};
 ghost use Rattle.batch.specs.Output.{count_of};
 ghost use Rattle.batch.specs.Answer.{output_after};
-ghost use Rattle.printed_batch.specs.PrintedBatch.{image_line, refusal_line, image_text, image_texts, printed_batch};
+ghost use Rattle.printed_batch.specs.PrintedBatch.{image_text, image_texts, printed_batch};
 ghost use Rattle.print_batch.specs.Printing.{Left, Part};
 ghost use Rattle.print_batch.specs.Reading.{longest_batch, read_output, PrintedAs, SomeRead, PrintedFrom};
 
-use arrayvec::ArrayVec;
 use base::part_of;
-use batch::{BatchRefusal, SUMMARY_SIZE};
+use batch::SUMMARY_SIZE;
 use batch_check::check_batch;
 use batch_framing::image_in;
 use image_framing::Fields;
@@ -21,9 +19,7 @@ use oce_diag::DIAGNOSTIC_SIZE;
 use oce_model::Field;
 use outcome::Answer;
 use print_check::{print_report, read_from};
-use printed_batch::{
-    LONGEST_IMAGE_LINES, LONGEST_REFUSAL_LINE, answer_in, counted_in, image_lines, refusal_line,
-};
+use printed_batch::{answer_in, counted_in, image_lines, refusal_line};
 use std::io;
 use std::io::{Error, ErrorKind, Read, Write};
 
@@ -39,25 +35,7 @@ const READ_BATCH: usize = LONGEST_BATCH + 1;
 // The bytes that are lent for the output of a batch that is read.
 const READ_OUTPUT: usize = 2097152;
 
-// Prints the line of a refused batch.
-fn print_refusal<W: Write>(to: &mut W, refusal: BatchRefusal) -> io::Result<()>
-    ensures { OnOk result (Appends (W.contents to.old) (W.contents to.new) (refusal_line refusal)) }
-{
-    let mut out = ArrayVec::<u8, LONGEST_REFUSAL_LINE>::new();
-    refusal_line(refusal, &mut out);
-    to.write_all(&out)
-}
-
 // ---- one image
-
-// Prints the line in front of image i and its first one.
-fn print_first<W: Write>(to: &mut W, i: u32, answer: Answer) -> io::Result<()>
-    ensures { OnOk result (Appends (W.contents to.old) (W.contents to.new) (image_line i ++ first_line answer)) }
-{
-    let mut out = ArrayVec::<u8, LONGEST_IMAGE_LINES>::new();
-    image_lines(i, answer, &mut out);
-    to.write_all(&out)
-}
 
 // Prints the image in a field, whose part of the output begins at o with its answer, which counts so many diagnostics.
 fn print_image<W: Write>(
@@ -72,7 +50,7 @@ fn print_image<W: Write>(
     requires { Part batch.now f output.now o answer × (count ≡ count_of answer) }
     ensures { OnOk result (Appends (W.contents to.old) (W.contents to.new) (image_text f.ord (image_in batch.now f))) }
 {
-    print_first(to, f.ord as u32, answer)?;
+    to.write_all(&image_lines(f.ord as u32, answer))?;
     if count == 0 {
         return Ok(());
     }
@@ -112,7 +90,7 @@ pub fn print_batch<W: Write>(to: &mut W, batch: &[u8], output: &mut [u8]) -> io:
     ensures printed { OnOk result (Appends (W.contents to.old) (W.contents to.new) (printed_batch batch.now (length output.old))) }
 {
     match check_batch(batch, output) {
-        Err(refusal) => print_refusal(to, refusal),
+        Err(refusal) => to.write_all(&refusal_line(refusal)),
         Ok(n) => print_images(to, batch, output, n),
     }
 }
@@ -150,7 +128,7 @@ fn read_and_print<W: Write, R: Read>(
     ensures printed { OnOk result (PrintedFrom (R.remaining from.old) (R.remaining from.new) (length output.old) (W.contents to.old) (W.contents to.new)) }
 {
     let n = read_from(from, buffer).map_err(Unprinted::Unreadable)?;
-    print_read(to, part_of(buffer, 0, n), output)
+    print_read(to, &buffer[..n], output)
 }
 
 // The same with buffers of its own. Its frame is large: called from one place alone it would be inlined there.

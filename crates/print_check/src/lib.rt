@@ -9,17 +9,17 @@ ghost use Rattle.oce_model.specs.Image.{fields};
 ghost use Rattle.oce_model.specs.Refusals.{refusal};
 ghost use Rattle.outcome.specs.Answer.{answer, filled_after};
 ghost use Rattle.printed.specs.Pieces.{Row};
-ghost use Rattle.printed.specs.Printed.{first_line, lines_from, printed};
+ghost use Rattle.printed.specs.Printed.{lines_from, printed};
 ghost use Rattle.field_lines.specs.Lines.{field_lines};
 ghost use Rattle.print_check.specs.Outcome.{longest_report, lent_report, Reported};
 
 use arrayvec::ArrayVec;
 use field_lines::put_fields;
-use image_records::Image;
-use oce_model::{LONGEST_IMAGE, MOST_BLOCKS, MOST_TEXTS};
+use image_records::{Image, Tables};
+use oce_model::LONGEST_IMAGE;
 use oce_validate::check;
 use outcome::Answer;
-use printed::{LONGEST_FIRST_LINE, first_line, put_lines};
+use printed::{first_line, put_lines};
 use std::fs::Files;
 use std::io;
 use std::io::{Error, ErrorKind, Read, Write};
@@ -63,20 +63,11 @@ pub fn print_report<W: Write>(
     requires { (refusal image.now ≡ None) × (count < word_range) × Row report.now count }
     ensures { OnOk result (Appends (W.contents to.old) (W.contents to.new) (lines_from image.now report.now 0 count)) }
 {
-    let mut texts = [0usize; MOST_TEXTS];
-    let mut blocks = [0usize; MOST_BLOCKS];
-    match Image::accept(image, &mut texts, &mut blocks) {
+    let mut tables = Tables::EMPTY;
+    match Image::accept(image, &mut tables) {
         Ok(image) => print_lines(to, &image, report, count),
         Err(_) => unreachable!(),
     }
-}
-
-fn print_first<W: Write>(to: &mut W, answer: Answer) -> io::Result<()>
-    ensures { OnOk result (Appends (W.contents to.old) (W.contents to.new) (first_line answer)) }
-{
-    let mut out = ArrayVec::<u8, LONGEST_FIRST_LINE>::new();
-    first_line(answer, &mut out);
-    to.write_all(&out)
 }
 
 // Prints an answer, and the diagnostics of the report that it counts.
@@ -84,13 +75,13 @@ fn print_all<W: Write>(to: &mut W, image: &[u8], report: &[u8], answer: Answer) 
     requires { Reported image.now answer report.now }
     ensures { OnOk result (Appends (W.contents to.old) (W.contents to.new) (printed image.now answer)) }
 {
-    print_first(to, answer)?;
+    to.write_all(&first_line(answer))?;
     match answer {
         Ok(counted) => print_report(
             to,
             image,
             report,
-            counted.errors as usize + counted.warnings as usize,
+            counted.total(),
         ),
         Err(_) => Ok(()),
     }

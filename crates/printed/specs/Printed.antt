@@ -126,10 +126,6 @@ longest_end = 1 + longest_text + 1
 abbrev pub longest_line : ℕ
 longest_line = longest_names + longest_rule + (1 + most_digits) + longest_end
 
--- of a refusal whose offset has at most so many digits
+-- a refusal's line, whose offset has at most so many digits
 abbrev pub longest_refused : ℕ → ℕ
 longest_refused most = length refused_label + most_digits + length at_label + most + length newline
-
--- the counts with two numbers; a refusal is shorter
-abbrev pub longest_first_line : ℕ
-longest_first_line = length errors_label + most_digits + length warnings_label + most_digits + length newline

@@ -5,7 +5,7 @@ ghost use Rattle.std.specs.Prelude.{◌≡◌, ◌+◌, ◌<◌, ◌≤◌, ◌+
 ghost use Rattle.arrayvec.specs.ArrayVec.{array_vec_len};
 ghost use Rattle.numbers.specs.Bytes.{word_range};
 ghost use Rattle.oce_model.specs.Format.{longest_text};
-ghost use Rattle.printed.specs.Printed.{severity_name, code_name, names, rule_and_detail, subject_field, line_end, line, refused_line, first_line, longest_severity, longest_code, longest_names, longest_rule, longest_end, longest_line, longest_refused, longest_first_line};
+ghost use Rattle.printed.specs.Printed.{severity_name, code_name, names, rule_and_detail, subject_field, line_end, line, refused_line, first_line, longest_severity, longest_code, longest_names, longest_rule, longest_end, longest_line, longest_refused};
 ghost use Rattle.printed.specs.Pieces.{Pieced, Row};
 
 use arrayvec::ArrayVec;
@@ -126,18 +126,19 @@ pub fn put_refusal<N: Number, const CAP: usize>(
 
 // The first line: the counts, or the refusal.
 #[tactic(auto, unfolding(crate::specs::Printed::first_line))]
-pub fn first_line<const CAP: usize>(answer: Answer, out: &mut ArrayVec<u8, CAP>)
-    requires { array_vec_len out.old + longest_first_line ≤ CAP }
-    ensures { out.new.items ≡ out.old.items ++ first_line answer }
+pub fn first_line(answer: Answer) -> ArrayVec<u8, LONGEST_FIRST_LINE>
+    ensures { result.items ≡ first_line answer }
 {
+    let mut line = ArrayVec::new();
     match answer {
         Ok(counted) => {
-            put_labelled(out, b"errors ", counted.errors);
-            put_labelled(out, b" warnings ", counted.warnings);
-            put_bytes(out, b"\n");
+            put_labelled(&mut line, b"errors ", counted.errors);
+            put_labelled(&mut line, b" warnings ", counted.warnings);
+            put_bytes(&mut line, b"\n");
         }
-        Err(refusal) => put_refusal(out, refusal.number, refusal.offset),
+        Err(refusal) => put_refusal(&mut line, refusal.number, refusal.offset),
     }
+    line
 }
 
 // The lines of a report's diagnostics, from the one with number `from` on and as long as the longest line

@@ -1,8 +1,8 @@
 -- What is printed for a batch of images. FORMAT 23.
 use Rattle.std.specs.Prelude.{ℕ, ◌+◌, List, [], ◌∷◌, ◌++◌, length, Ok, Err}
-use Rattle.decimal.specs.Decimal.{decimal, wide_decimal, most_digits, most_wide_digits}
+use Rattle.decimal.specs.Decimal.{decimal, wide_decimal}
 use Rattle.outcome.specs.Answer.{Answer, report_of, report_size, answer}
-use Rattle.printed.specs.Printed.{newline, refused_line, printed, longest_refused, longest_first_line}
+use Rattle.printed.specs.Printed.{newline, refused_line, printed}
 use Rattle.batch.specs.Fields.{images}
 use Rattle.batch.specs.Answer.{BatchAnswer, batch_answer}
 use Rattle.batch.specs.declared.BatchRefusal.{BatchRefusal}
@@ -44,15 +44,3 @@ printed_for s (Ok n) = image_texts 0 (images s)
 -- all that is printed for a batch; the number is the length of the output buffer
 unfoldable pub printed_batch : List ℕ → ℕ → List ℕ
 printed_batch s room = printed_for s (batch_answer s room)
-
--- ---- lengths
-
-abbrev pub longest_image_line : ℕ
-longest_image_line = length image_label + most_digits + length newline
-
--- of an image's line and the one behind it
-abbrev pub longest_image_lines : ℕ
-longest_image_lines = longest_image_line + longest_first_line
-
-abbrev pub longest_refusal_line : ℕ
-longest_refusal_line = longest_refused most_wide_digits

@@ -1,13 +1,11 @@
-// The lines that are printed for a batch, put behind those of a text that has room for them; and counts and answers
-// read back from its output.
+// The lines that are printed for a batch; and counts and answers read back from its output.
 #![tactic(auto)]
 
-ghost use Rattle.std.specs.Prelude.{◌≡◌, ◌++◌, ◌+◌, ◌<◌, ◌≤◌};
-ghost use Rattle.arrayvec.specs.ArrayVec.{array_vec_len};
+ghost use Rattle.std.specs.Prelude.{◌≡◌, ◌++◌, ◌+◌, ◌<◌};
 ghost use Rattle.numbers.specs.Bytes.{long_range};
 ghost use Rattle.batch.specs.Output.{summary_size};
 ghost use Rattle.printed.specs.Printed.{first_line};
-ghost use Rattle.printed_batch.specs.PrintedBatch.{image_line, refusal_line, longest_image_lines, longest_refusal_line};
+ghost use Rattle.printed_batch.specs.PrintedBatch.{image_line, refusal_line};
 ghost use Rattle.printed_batch.specs.ReadBack.{counted_in, answer_in};
 
 use arrayvec::ArrayVec;
@@ -29,22 +27,24 @@ pub const LONGEST_REFUSAL_LINE: usize = 43;
 
 // The line in front of an image's own, and the image's first one.
 #[tactic(auto, unfolding(crate::specs::PrintedBatch::image_line))]
-pub fn image_lines<const CAP: usize>(i: u32, answer: Answer, out: &mut ArrayVec<u8, CAP>)
-    requires { array_vec_len out.old + longest_image_lines ≤ CAP }
-    ensures { out.new.items ≡ out.old.items ++ (image_line i ++ first_line answer) }
+pub fn image_lines(i: u32, answer: Answer) -> ArrayVec<u8, LONGEST_IMAGE_LINES>
+    ensures { result.items ≡ image_line i ++ first_line answer }
 {
-    put_labelled(out, b"image ", i);
-    put_bytes(out, b"\n");
-    first_line(answer, out);
+    let mut lines = ArrayVec::new();
+    put_labelled(&mut lines, b"image ", i);
+    put_bytes(&mut lines, b"\n");
+    put_bytes(&mut lines, &first_line(answer));
+    lines
 }
 
 // The line of a refused batch.
 #[tactic(auto, unfolding(crate::specs::PrintedBatch::refusal_line))]
-pub fn refusal_line<const CAP: usize>(refusal: BatchRefusal, out: &mut ArrayVec<u8, CAP>)
-    requires { array_vec_len out.old + longest_refusal_line ≤ CAP }
-    ensures { out.new.items ≡ out.old.items ++ refusal_line refusal }
+pub fn refusal_line(refusal: BatchRefusal) -> ArrayVec<u8, LONGEST_REFUSAL_LINE>
+    ensures { result.items ≡ refusal_line refusal }
 {
-    put_refusal(out, refusal.number, refusal.offset as u64);
+    let mut line = ArrayVec::new();
+    put_refusal(&mut line, refusal.number, refusal.offset as u64);
+    line
 }
 
 // ---- answers

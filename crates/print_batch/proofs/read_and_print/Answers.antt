@@ -9,4 +9,4 @@ returns-in_err-n-clause-ending g c = let p = err_from_is_err_and c.from_residual
 pub returns-clause-printed : goal.returns-clause-printed
 returns-clause-printed g c =
     let read = rw (read_ok c.read_from.result c.in_ok-n.n c.in_ok-n.ensures.cases) at c.read_from.ensures.bytes in
-    printed-from _ _ _ _ _ _ c.print_read.ensures.printed c.print_read.ensures.ending (rw c.part_of.ensures read)
+    printed-from _ _ _ _ _ _ c.print_read.ensures.printed c.print_read.ensures.ending read
