@@ -1,5 +1,6 @@
 -- Stored filled records, and the image with their attributes: docs/STORED_ANSWERS.md has their form, 40 bytes. Bytes past the file's end count as 0.
 use Rattle.std.specs.Prelude.{ℕ, ◌+◌, ◌*◌, Bool, cond, ◌&&◌, List, eqb, ltb, leb, length, get_or, take, drop}
+use Rattle.std.specs.Prelude.{Option, Some, None}
 use Rattle.base.specs.Lists.{steps, tally, same}
 use Rattle.base.specs.Buffers.{patch}
 use Rattle.numbers.specs.Bytes.{byte, le32}
@@ -25,6 +26,10 @@ unfoldable pub slot_of : Model → ℕ → ℕ → ℕ
 slot_of m tag i =
     cond (eqb tag connector_tag && ltb i (connector_count m)) i
     (cond (eqb tag boundary_output_tag && ltb i (boundary_output_count m)) (connector_count m + i) (slot_count m))
+
+-- the same, if the model has that slot
+abbrev pub some_slot : Model → ℕ → ℕ → Option ℕ
+some_slot m tag i = cond (ltb (slot_of m tag i) (slot_count m)) (Some (slot_of m tag i)) None
 
 unfoldable pub slot_at : List ℕ → ℕ → List ℕ → ℕ
 slot_at f at s = slot_of (model_of s) (byte f at) (le32 f (at + index_at))

@@ -13,7 +13,7 @@ pub image_agrees-requires : goal.image_agrees-requires
 image_agrees-requires c =
     let reach = c.records_reach in
     let e = c.in-Ok.ensures in
-    (reach-inside c.args.file.now c.args.at c.args.count c.args.end reach.ensures c.if-not-records_reach.false c.if-file-end.false, rw e.0 e.1, rw e.0 c.requires.1)
+    (reach-inside c.args.file.now c.args.at c.args.count c.args.end reach.ensures c.if-not-records_reach.false c.if-file-end.false, rw e.0 c.requires.1)
 
 pub returns-in-Err : goal.returns-in-Err
 returns-in-Err c = filled-refused _ _ _ _ _ c.in-Err.ensures c.requires.0
