@@ -5,7 +5,7 @@ use native.Mathlib.Omega.{arith}
 use mathlib.Core.Path.{◌≡◌, refl, sym, ap, ◌∙◌}
 use mathlib.Core.Bool.{Bool, true, false, not, ◌&&◌}
 use mathlib.Core.List.{List, ◌∷◌, ◌++◌}
-use Rattle.std.specs.Prelude.{Some, None, Result, Ok, Err}
+use Rattle.std.specs.Prelude.{Some, None, Result, Ok, Err, MatchResult}
 use lib.Dec.{eqb}
 use lib.ListN.{length, take, drop, take-append-drop, length-take, get_or-eq_default}
 use lib.Seq.{drop-cons, get_or-take, get_or-drop}
@@ -31,6 +31,7 @@ use Rattle.stored.specs.declared.Record.{Record}
 use Rattle.agreement_diagnostics.specs.Diagnostics.{compared, Reported}
 use Rattle.agreement_filled.specs.Filled.{filled_agrees}
 use Rattle.agreement.specs.Agreement.{Agreement, longest_report, filled_agreement, accepted_agreement, results_agreement, image_of, agreement, agreement_with, Leaves}
+use Rattle.agreement.specs.declared.Difference.{Difference}
 use Rattle.agreement.specs.declared.Difference.TheVariants.{Refusal as Refusals, Counts, Diagnostic, Filled}
 
 -- ---- counts, diagnostics, then the filled image
@@ -59,15 +60,27 @@ module _ (f : List ℕ) (end : ℕ) (t : Results) {s : List ℕ} {c : Counted} {
     unfolding results_agreement
     results-then e = let h = held same (sym g ∙ k) in sym (rw (← v.counts.0, ← v.counts.1, h, ← e))
 
-    pub results-differ : {n : ℕ} → Err n ≡ compared f t.diagnostics s (report_of s) → Err (Diagnostic n) ≡ results_agreement f end t s
-    results-differ e = results-then e
+    module _ {a : Result ℕ ℕ} (e : a ≡ compared f t.diagnostics s (report_of s)) where
+      pub results-differ : {d : Difference} → MatchResult a (λ x. ◌≡◌ {A = Result ℕ Difference} (Err d) (Ok x)) (λ n. d ≡ Diagnostic n) → Err d ≡ results_agreement f end t s
+      results-differ {d} m = first a m ∙ results-then e
+        where
+          first : (r : Result ℕ ℕ) → MatchResult r (λ x. ◌≡◌ {A = Result ℕ Difference} (Err d) (Ok x)) (λ n. d ≡ Diagnostic n) → Err d ≡ filled_agreement f end t s r
+          first (Ok x) m = cc
+          first (Err n) m = ap Err m
 
-    module _ {at : ℕ} (e : Ok at ≡ compared f t.diagnostics s (report_of s)) {y : Bool} (d : y ≡ filled_agrees f at t.filled end s) where
-      pub results_same : y ≡ true → Ok tt ≡ results_agreement f end t s
-      results_same l = rw (sym d ∙ l) at (results-then e)
+      module _ (at : ℕ) (m : MatchResult a (λ x. ◌≡◌ {A = Result ℕ Difference} (Ok at) (Ok x)) (λ w. ⊥)) {y : Bool} (d : y ≡ filled_agrees f at t.filled end s) where
+        agreed : filled_agreement f end t s (Ok at) ≡ results_agreement f end t s
+        agreed = ap (filled_agreement f end t s) (sym (ok a m)) ∙ results-then e
+          where
+            ok : (r : Result ℕ ℕ) → MatchResult r (λ x. ◌≡◌ {A = Result ℕ Difference} (Ok at) (Ok x)) (λ w. ⊥) → r ≡ Ok at
+            ok (Ok x) m = cc
+            ok (Err w) m = absurd m
 
-      pub results-filled : y ≡ false → Err Filled ≡ results_agreement f end t s
-      results-filled l = rw (sym d ∙ l) at (results-then e)
+        pub results_same : y ≡ true → Ok tt ≡ results_agreement f end t s
+        results_same l = rw (sym d ∙ l) at agreed
+
+        pub results-filled : y ≡ false → Err Filled ≡ results_agreement f end t s
+        results-filled l = rw (sym d ∙ l) at agreed
 
 -- ---- what a check leaves
 

@@ -2,7 +2,7 @@
 // docs/STORED_ANSWERS.md has them.
 #![tactic(auto)]
 
-ghost use Rattle.std.specs.Prelude.{◌≡◌, length};
+ghost use Rattle.std.specs.Prelude.{◌≡◌};
 ghost use Rattle.stored.specs.Files.{said};
 ghost use Rattle.agreement.specs.Agreement.{refusal_agreement, results_agreement, agreement, Leaves};
 
@@ -55,17 +55,12 @@ fn compare_results(
     if stored.counted != here {
         return Err(Difference::Counts);
     }
-    let count = here.errors as usize + here.warnings as usize;
-    match compare_diagnostics(file, stored.diagnostics, image, report, count) {
-        Err(n) => Err(Difference::Diagnostic(n)),
-        Ok(at) => {
-            if filled_agrees(file, at, stored.filled, end, image, filled) {
-                Ok(())
-            } else {
-                Err(Difference::Filled)
-            }
-        }
+    let at = compare_diagnostics(file, stored.diagnostics, image, report, here.total())
+        .map_err(Difference::Diagnostic)?;
+    if !filled_agrees(file, at, stored.filled, end, image, filled) {
+        return Err(Difference::Filled);
     }
+    Ok(())
 }
 
 // Checks the image of a stored record, and compares what that gives with the record.
@@ -79,12 +74,10 @@ pub fn compare(file: &[u8], stored: Record) -> Result<(), Difference>
         Err(refusal) => compare_refusal(stored.answer, refusal),
         Ok(counted) => match stored.answer.said() {
             Err(_) => Err(Difference::Refusal(None)),
-            Ok(told) => match told {
-                Some(results) => {
-                    compare_results(file, stored.end, results, image, counted, &filled, &report)
-                }
-                None => Ok(()),
-            },
+            Ok(None) => Ok(()),
+            Ok(Some(results)) => {
+                compare_results(file, stored.end, results, image, counted, &filled, &report)
+            }
         },
     }
 }

@@ -15,8 +15,8 @@ returns-in-Err c = c.compare_refusal.ensures ∙ whole _ _ _ _ c.part_of-image.e
 pub returns-in-Err-said : goal.returns-in-Err-said
 returns-in-Err-said c = accepted-refused _ _ _ c.in-Ok.counted (whole _ _ _ _ c.part_of-image.ensures c.check.ensures.answer (search rules) (search rules) c.in-Ok.is) (sym c.said.ensures ∙ c.in-Err-said.is)
 
-pub returns-in-None : goal.returns-in-None
-returns-in-None c = accepted-untold _ _ _ c.in-Ok.counted (whole _ _ _ _ c.part_of-image.ensures c.check.ensures.answer (search rules) (search rules) c.in-Ok.is) (sym c.said.ensures ∙ c.in-Ok-said.is ∙ ap Ok c.in-None.is)
+pub returns-in-Ok-None : goal.returns-in-Ok-None
+returns-in-Ok-None c = accepted-untold _ _ _ c.in-Ok.counted (whole _ _ _ _ c.part_of-image.ensures c.check.ensures.answer (search rules) (search rules) c.in-Ok.is) (sym c.said.ensures ∙ c.in-Ok-None.is ∙ ap Ok c.in-Ok-None.field-0-is)
 
-pub returns-in-Some : goal.returns-in-Some
-returns-in-Some c = accepted-told _ _ _ c.in-Ok.counted (whole _ _ _ _ c.part_of-image.ensures c.check.ensures.answer (search rules) (search rules) c.in-Ok.is) (sym c.said.ensures ∙ c.in-Ok-said.is ∙ ap Ok c.in-Some.is) c.compare_results.ensures
+pub returns-in-Ok-Some : goal.returns-in-Ok-Some
+returns-in-Ok-Some c = accepted-told _ _ _ c.in-Ok.counted (whole _ _ _ _ c.part_of-image.ensures c.check.ensures.answer (search rules) (search rules) c.in-Ok.is) (sym c.said.ensures ∙ c.in-Ok-Some.is ∙ ap Ok c.in-Ok-Some.field-0-is) c.compare_results.ensures
