@@ -1,13 +1,14 @@
 -- Laws of the search for the first field at fault, and what it says of a batch that none is found.
-use Prim.Native.Nat.{ℕ, ◌<◌, ◌≤◌}
+use Prim.Native.Nat.{ℕ, ◌≤◌}
 use native.Mathlib.Omega.{arith}
 use mathlib.Core.Path.{◌≡◌, refl, sym, ◌∙◌}
 use mathlib.Core.Bool.{Bool, true, false, cond}
 use mathlib.Core.List.{List}
 use lib.Dec.{ltb}
 use lib.ListN.{length}
-use borrow.Author.Tests.{lt-ltb, le-ltb}
+use borrow.Author.Tests.{le-ltb}
 use Rattle.std.specs.Prelude.{Option, None, Some}
+use Rattle.std.specs.Bool.{then_some}
 use Rattle.oce_model.specs.Image.{fields, stop, first}
 use Rattle.oce_model.proofs.Accepted.{stops}
 use Rattle.batch.specs.Fields.{bad_field, or_else, first_fault}
@@ -20,14 +21,13 @@ module _ (s : List ℕ) where
   unfolding first_fault
   fault-bad {at} h = sym (rw (sym h) refl)
 
-  module _ (h : first bad_field (fields s) ≡ None) {end : ℕ} (e : stop s ≡ end) where
-    pub fault-cut : end < length s → Some end ≡ first_fault s
-    unfolding first_fault
-    fault-cut l = sym (rw (h, e, lt-ltb end (length s) l) refl)
-
-    pub fault-none : length s ≤ end → None ≡ first_fault s
-    unfolding first_fault
-    fault-none l = sym (rw (h, e, le-ltb end (length s) l) refl)
+  pub fault-end : first bad_field (fields s) ≡ None → {end : ℕ} → stop s ≡ end → then_some (ltb end (length s)) end ≡ first_fault s
+  unfolding first_fault
+  fault-end h {end} e = rw (h, e) (arm (ltb end (length s)))
+    where
+      arm : (b : Bool) → then_some b end ≡ cond b (Some end) None
+      arm true = refl
+      arm false = refl
 
 -- ---- what was found
 

@@ -29,7 +29,7 @@ pub fn find_fault(batch: &[u8]) -> Option<usize>
         }
         end = end_of(f);
     }
-    if end < batch.len() { Some(end) } else { None }
+    (end < batch.len()).then_some(end)
 }
 
 // The image in a field.

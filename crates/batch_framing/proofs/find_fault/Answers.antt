@@ -1,7 +1,7 @@
 -- `batch_framing::find_fault` meets its contract: none of the fields passed is at fault.
-use Rattle.std.proofs.Common.{rules}
+use Rattle.std.proofs.Common.{◌∙◌, rules}
 use Rattle.image_framing.proofs.Finds.{searching-start, searching-fits, searching-next, searching-found, searching-none, stopping-start, stopping-next, stopping-end}
-use Rattle.batch_framing.proofs.Finds.{fault-bad, fault-cut, fault-none}
+use Rattle.batch_framing.proofs.Finds.{fault-bad, fault-end}
 use Rattle.batch_framing.proofs.find_fault.Goals as goal
 
 pub loop-f-init : goal.loop-f-init
@@ -18,12 +18,7 @@ loop-f-preserved c =
     let e = c.in-Some.ensures.steps in
     (searching-next c.loop-f.invariant.0 e c.bad_field.ensures c.if-bad_field.false, stopping-next c.loop-f.invariant.1 e c.end_of-end.ensures)
 
-pub returns-then-end-batch : goal.returns-then-end-batch
-returns-then-end-batch c =
+pub returns : goal.returns
+returns c =
     let e = c.in-None.ensures.steps.0 in
-    fault-cut _ (searching-none c.loop-f.invariant.0 e) (stopping-end c.loop-f.invariant.1 e) c.if-end-batch.true
-
-pub returns-else-end-batch : goal.returns-else-end-batch
-returns-else-end-batch c =
-    let e = c.in-None.ensures.steps.0 in
-    fault-none _ (searching-none c.loop-f.invariant.0 e) (stopping-end c.loop-f.invariant.1 e) c.if-end-batch.false
+    c.then_some.ensures ∙ fault-end _ (searching-none c.loop-f.invariant.0 e) (stopping-end c.loop-f.invariant.1 e)
