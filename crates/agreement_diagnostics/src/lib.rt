@@ -7,7 +7,7 @@ ghost use Rattle.agreement_diagnostics.specs.Diagnostics.{same_fields, same_numb
 
 use base::part_of;
 use image_texts::same_bytes;
-use numbers::{at16, at32, byte_at, is_set};
+use numbers::{LittleEndian, at16, byte_at, is_set};
 use oce_diag::{
     CODE_PLACE, DETAIL_PLACE, DIAGNOSTIC_LENGTH, Diagnostic, PLACE_PLACE, RULE_PLACE,
     SEVERITY_PLACE, SUBJECT_KIND_PLACE, SUBJECT_NUMBER_PLACE, Subject, code_number, diagnostic_at,
@@ -48,11 +48,11 @@ fn fields_agree(file: &[u8], at: usize, d: Diagnostic) -> bool
     requires { at ≤ length file.now }
     ensures { result ≡ same_fields file.now at d }
 {
-    byte_at(file, at) == severity_number(d.severity) as usize
-        && byte_at(file, at + CODE_AT) == code_number(d.code) as usize
-        && byte_at(file, at + RULE_AT) == d.rule as usize
-        && byte_at(file, at + DETAIL_AT) == d.detail as usize
-        && byte_at(file, at + KIND_AT) == subject_kind(d.subject) as usize
+    u8::read_padded(file, at) == severity_number(d.severity)
+        && u8::read_padded(file, at + CODE_AT) == code_number(d.code)
+        && u8::read_padded(file, at + RULE_AT) == d.rule
+        && u8::read_padded(file, at + DETAIL_AT) == d.detail
+        && u8::read_padded(file, at + KIND_AT) == subject_kind(d.subject)
 }
 
 // The subject's number and the place, where they are told.
@@ -62,8 +62,9 @@ fn numbers_agree(file: &[u8], at: usize, d: Diagnostic) -> bool
     ensures { result ≡ same_numbers file.now at d }
 {
     let told = byte_at(file, at + TOLD_AT);
-    (!is_set(told, NUMBER_BIT) || at32(file, at + NUMBER_AT) == subject_number(d.subject) as usize)
-        && (!is_set(told, PLACE_BIT) || at32(file, at + PLACE_AT) == d.place as usize)
+    (!is_set(told, NUMBER_BIT)
+        || u32::read_padded(file, at + NUMBER_AT) == subject_number(d.subject))
+        && (!is_set(told, PLACE_BIT) || u32::read_padded(file, at + PLACE_AT) == d.place)
 }
 
 // The subject's text.
