@@ -4,8 +4,6 @@
 #![tactic(auto)]
 
 use agreement::{Difference, compare};
-use base::part_of;
-use image_texts::same_bytes;
 use oce_model::Refusal;
 use std::env::{Env, FillError};
 use std::fmt;
@@ -13,14 +11,17 @@ use std::fs::Files;
 use stored::{FIRST_RECORD, Record, is_stored, record_at, record_count};
 use streams::{open_read, read_full};
 
-// No file is longer: a record of 131,072 bytes behind the file's first 12.
-const LONGEST_FILE: usize = 131084;
+// No record of a file has more bytes.
+const LONGEST_RECORD: usize = 131072;
+
+// No file is longer: its first bytes, and such a record.
+const LONGEST_FILE: usize = FIRST_RECORD + LONGEST_RECORD;
 
 // No file has a longer name.
 const LONGEST_NAME: usize = 4096;
 
-// The length of `wrong`, with which the name of a file begins whose answers are wrong on purpose.
-const WRONG_LENGTH: usize = 5;
+// With this the name of a file begins whose answers are wrong on purpose.
+const WRONG: &[u8] = b"wrong";
 
 // ---- sums
 
@@ -144,7 +145,7 @@ fn replay_record<P: Print>(to: &P, name: &[u8], file: &[u8], k: usize, r: Record
 
 // Whether a file's answers are wrong on purpose, by its name: it isn't summed up with the others.
 fn is_wrong(name: &[u8]) -> bool {
-    same_bytes(part_of(name, 0, WRONG_LENGTH), b"wrong")
+    name.starts_with(WRONG)
 }
 
 // All records, as many as the file says it has: where the last ends, and what they give. None where one doesn't fit.
@@ -204,12 +205,8 @@ fn replay_argument<R: Env + Files + Print>(rt: &R, i: usize) -> Option<Sum> {
 }
 
 fn main(rt: HostRuntime) {
-    let mut total = Sum::default();
-    for i in 1..usize::MAX {
-        match replay_argument(&rt, i) {
-            Some(sum) => total = total.plus(sum),
-            None => break,
-        }
-    }
+    let total = (1..usize::MAX)
+        .map_while(|i| replay_argument(&rt, i))
+        .fold(Sum::default(), Sum::plus);
     let _ = rt.println(total);
 }

@@ -6,7 +6,7 @@ ghost use Rattle.std.specs.Prelude.{◌<◌, ◌≤◌, length, take, OnOk};
 ghost use Rattle.std.specs.Io.KnownBytes.{Consumes, IsAtEnd};
 ghost use Rattle.streams.specs.Complaint.{Complains};
 
-use base::part_of;
+use arrayvec::ArrayVec;
 use std::fs::{File, Files, OpenOptions};
 use std::io::{Error, Read, Write};
 use std::{fs, io};
@@ -52,23 +52,15 @@ pub fn read_full<R: Read>(from: &mut R, buffer: &mut [u8]) -> Front
 const LONGEST_MESSAGE: usize = 320;
 
 // The library puts the error's number behind the system's words, in brackets.
-const NUMBER: &[u8; 11] = b" (os error ";
-
-// Puts the library's message at the start of a buffer and says how long it is.
-fn put_message(text: &mut [u8; LONGEST_MESSAGE], error: Error) -> usize {
-    let mut rest: &mut [u8] = text;
-    // A message that has no room is cut.
-    let _ = write!(rest, "{error}");
-    LONGEST_MESSAGE.saturating_sub(rest.len())
-}
+const NUMBER: &[u8] = b" (os error ";
 
 // The system's words: a message without the number behind them.
 fn words_of(message: &[u8]) -> &[u8] {
     match message
         .windows(NUMBER.len())
-        .position(|part| part == &NUMBER[..])
+        .position(|part| part == NUMBER)
     {
-        Some(i) => part_of(message, 0, i),
+        Some(i) => &message[..i],
         None => message,
     }
 }
@@ -77,11 +69,12 @@ fn words_of(message: &[u8]) -> &[u8] {
 pub fn fail<W: Write>(to: &mut W, what: &[u8], error: Error) -> io::Result<()>
     ensures { OnOk result (Complains (W.contents to.old) (W.contents to.new) what.now) }
 {
-    let mut text = [0u8; LONGEST_MESSAGE];
-    let n = put_message(&mut text, error);
+    let mut message = ArrayVec::<u8, LONGEST_MESSAGE>::new();
+    // A message that has no room is cut.
+    let _ = write!(message, "{error}");
     to.write_all(what)?;
     to.write_all(b": ")?;
-    to.write_all(words_of(part_of(&text, 0, n)))?;
+    to.write_all(words_of(&message))?;
     to.write_all(b"\n")
 }
 
@@ -108,6 +101,7 @@ pub fn create<F: Files>(files: &F, name: &[u8]) -> io::Result<F::File> {
         .open(files, path_of(name)?)
 }
 
+// Removes a file.
 pub fn unlink<F: Files>(files: &F, name: &[u8]) -> io::Result<()> {
     fs::remove_file(files, path_of(name)?)
 }
