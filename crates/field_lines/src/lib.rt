@@ -1,4 +1,5 @@
-// The lines that list an image's fields, put behind those of a text that has room for them: each field's offset, tag and length.
+// The lines that list an image's fields, put behind those of a text that has room for them: each field's offset, tag
+// and length.
 #![tactic(auto)]
 
 ghost use Rattle.std.specs.Prelude.{◌≡◌, ◌+◌, ◌<◌, ◌≤◌, ◌++◌, length};

@@ -1,4 +1,5 @@
-// The checking calls with answers in numbers, as programs in C or Rust take them. oce_capi_c exports them; include/oce.h is their header.
+// The checking calls with answers in numbers, as programs in C or Rust take them. oce_capi_c exports them;
+// include/oce.h is their header.
 #![tactic(auto)]
 
 ghost use Rattle.std.specs.Prelude.{◌≡◌, length};

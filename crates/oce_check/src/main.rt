@@ -1,13 +1,14 @@
 // Checks a model image and prints its report: of standard input, or of the file that an argument names.
-// A second argument names a new file for the filled image, or is - for standard output. After --fields the fields of an image are listed, after --batch a batch of
-// images is checked.
+// A second argument names a new file for the filled image, or is - for standard output. After --fields the fields of
+// an image are listed, after --batch a batch of images is checked.
 #![tactic(auto)]
 
 use base::part_of;
 use oce_model::LONGEST_IMAGE;
-use print_batch::{Unprinted, print_batch_from};
+use print_batch::{LONGEST_BATCH, Unprinted, print_batch_from};
 use print_check::{print_check, print_fields, read_image};
 use std::env::{Env, FillError};
+use std::fmt;
 use std::io::{Error, Write};
 use streams::{create, fail, open_read, read_full, unlink};
 
@@ -17,8 +18,13 @@ const READ: usize = LONGEST_IMAGE + 1;
 // No file has a longer name.
 const LONGEST_NAME: usize = 4096;
 
-// The program's own name, two arguments, and one to notice that there are more.
-const MOST_ARGS: usize = 4;
+// Which arguments there are; the program's own name is number 0.
+const FIRST: usize = 1;
+
+const SECOND: usize = 2;
+
+// The name, both arguments, and one to notice that there are more.
+const MOST_ARGS: usize = SECOND + 2;
 
 // What --help prints.
 const HELP: &[u8] = b"\
@@ -43,7 +49,7 @@ fn print(rt: &HostRuntime, text: &[u8]) {
     let _ = rt.stdout().write_all(text);
 }
 
-fn complain(rt: &HostRuntime, text: &str) {
+fn complain<D: fmt::Display + Drop>(rt: &HostRuntime, text: D) {
     let _ = writeln!(rt.stderr(), "oce_check: {text}");
 }
 
@@ -53,7 +59,7 @@ fn complain_of(rt: &HostRuntime, what: &[u8], why: Error) {
 
 // ---- the arguments
 
-// How many there are, the program's own name among them; more than four count as four.
+// How many there are, the program's own name among them, and no more than that.
 fn arg_count(rt: &HostRuntime) -> usize {
     (0..MOST_ARGS)
         .find(|&i| matches!(rt.arg(i, &mut []), Err(FillError::NotPresent)))
@@ -63,11 +69,11 @@ fn arg_count(rt: &HostRuntime) -> usize {
 // Argument i, read to a buffer; says so if it is too long.
 fn argument<'a>(rt: &HostRuntime, i: usize, name: &'a mut [u8]) -> Option<&'a [u8]> {
     match rt.arg(i, name) {
-        Ok(n) => Some(part_of(name, 0, n)),
+        Ok(n) => Some(&name[..n]),
         Err(_) => {
             complain(
                 rt,
-                if i == 1 {
+                if i == FIRST {
                     "the first argument is too long"
                 } else {
                     "the second argument is too long"
@@ -121,13 +127,13 @@ fn check_image(rt: &HostRuntime, image: &[u8], i: usize) {
 fn check_stdin(rt: &HostRuntime) {
     let mut bytes = [0u8; READ];
     let n = read_full(&mut rt.stdin(), &mut bytes).length;
-    check_image(rt, &bytes[..n], 1);
+    check_image(rt, &bytes[..n], FIRST);
 }
 
 fn check_file(rt: &HostRuntime, name: &[u8]) {
     let mut bytes = [0u8; READ];
     if let Ok(n) = read_image(rt, &mut rt.stderr(), name, &mut bytes) {
-        check_image(rt, &bytes[..n], 2);
+        check_image(rt, &bytes[..n], SECOND);
     }
 }
 
@@ -143,7 +149,7 @@ fn list_file(rt: &HostRuntime, name: &[u8]) {
 
 // Lists the fields of the image that the second argument names.
 fn list_named(rt: &HostRuntime, count: usize) {
-    if count <= 2 {
+    if count <= SECOND {
         complain(
             rt,
             "--fields needs an image; oce_check --help tells its use",
@@ -151,7 +157,7 @@ fn list_named(rt: &HostRuntime, count: usize) {
         return;
     }
     let mut name = [0u8; LONGEST_NAME];
-    if let Some(name) = argument(rt, 2, &mut name) {
+    if let Some(name) = argument(rt, SECOND, &mut name) {
         list_file(rt, name);
     }
 }
@@ -162,7 +168,10 @@ fn list_named(rt: &HostRuntime, count: usize) {
 fn complain_of_batch(rt: &HostRuntime, why: Unprinted, name: &[u8]) {
     match why {
         Unprinted::Unreadable(why) => complain_of(rt, name, why),
-        Unprinted::TooLong => complain(rt, "the batch is longer than 4194304 bytes"),
+        Unprinted::TooLong => complain(
+            rt,
+            format_args!("the batch is longer than {LONGEST_BATCH} bytes"),
+        ),
         Unprinted::NotWritten(_) => complain(rt, "not all of the report could be written"),
     }
 }
@@ -180,14 +189,14 @@ fn check_batch_file(rt: &HostRuntime, name: &[u8]) {
 
 // Checks a batch of standard input, or of the file that the second argument names.
 fn check_images(rt: &HostRuntime, count: usize) {
-    if count <= 2 {
+    if count <= SECOND {
         if let Err(why) = print_batch_from(&mut rt.stdout(), &mut rt.stdin()) {
             complain_of_batch(rt, why, b"standard input");
         }
         return;
     }
     let mut name = [0u8; LONGEST_NAME];
-    if let Some(name) = argument(rt, 2, &mut name) {
+    if let Some(name) = argument(rt, SECOND, &mut name) {
         check_batch_file(rt, name);
     }
 }
@@ -205,11 +214,11 @@ fn run(rt: &HostRuntime, first: &[u8], count: usize) {
 
 fn main(rt: HostRuntime) {
     let count = arg_count(&rt);
-    if count <= 1 {
+    if count <= FIRST {
         check_stdin(&rt);
         return;
     }
-    if 3 < count {
+    if SECOND + 1 < count {
         complain(
             &rt,
             "more than two arguments; oce_check --help tells its use",
@@ -217,7 +226,7 @@ fn main(rt: HostRuntime) {
         return;
     }
     let mut name = [0u8; LONGEST_NAME];
-    if let Some(name) = argument(&rt, 1, &mut name) {
+    if let Some(name) = argument(&rt, FIRST, &mut name) {
         run(&rt, name, count);
     }
 }

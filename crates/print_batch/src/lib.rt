@@ -26,8 +26,8 @@ use std::io::{Error, ErrorKind, Read, Write};
 // An output that is printed is shorter than this, so that each of its counts has room in four bytes.
 const LONG_OUTPUT: usize = 4294967296;
 
-// A batch that is read has no more bytes (oce_check names the number): sixty-four images of nearly full size.
-const LONGEST_BATCH: usize = 4194304;
+// A batch that is read has no more bytes: sixty-four images of nearly full size.
+pub const LONGEST_BATCH: usize = 4194304;
 
 // One more, to notice a batch that is longer.
 const READ_BATCH: usize = LONGEST_BATCH + 1;
