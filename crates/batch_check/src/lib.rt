@@ -23,14 +23,14 @@ const FIELD_AT_FAULT: u32 = 11;
 
 const OUTPUT_TOO_SHORT: u32 = 12;
 
-// Room for an output that is written before it is known whether the caller's buffer has room for it: a field for each of
-// the most images.
+// Room for an output that is written before it is known whether the caller's buffer has room for it: a field for each
+// of the most images.
 const EARLY: usize = SUMMARY_SIZE * MOST_IMAGES;
 
 // ---- what the output needs
 
-// Keeps the answer for the image in a field; the bytes that it needs. Its part of the output stands in early from index o
-// on, if it fits there.
+// Keeps the answer for the image in a field; the bytes that it needs. Its part of the output stands in early from index
+// o on, if it fits there.
 fn measure_image(batch: &[u8], f: Field, kept: &mut [Answer], early: &mut [u8], o: usize) -> usize
     requires { (f.at ≤ length batch.now) × (f.ord < length kept.old) }
     ensures kept { kept.new ≡ set kept.old f.ord (summary_of (image_in batch.now f)) }

@@ -46,8 +46,9 @@ fn in_numbers(a: Answer) -> OceAnswer
     }
 }
 
-// Checks a model image: its report into one buffer, its filled image into the other. Where it is refused, or a buffer is
-// too short, both buffers stay as they are. `answer` is the answer in numbers, `moved` demand 3 of that answer.
+// Checks a model image: its report into one buffer, its filled image into the other. Where it is refused, or a buffer
+// is too short, both buffers stay as they are. `answer` is the answer in numbers, `moved` what moves along connections
+// by that answer.
 pub fn oce_check(image: &[u8], filled: &mut [u8], report: &mut [u8]) -> OceAnswer
     ensures answer { result ≡ numbers (answer image.now (length filled.old) (length report.old)) }
     ensures filled { filled.new ≡ filled_after image.now filled.old report.old }
