@@ -1,4 +1,4 @@
--- `oce_validate::check` meets its contract: the three equations, and demand 3 by them.
+-- `oce_validate::check` meets its contract: the three equations, and by them the theorem about values that move along connections.
 use native.Mathlib.Omega.{arith}
 use mathlib.Core.Path.{ap}
 use Rattle.outcome.specs.Answer.{numbers_of}
