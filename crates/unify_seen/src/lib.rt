@@ -22,7 +22,11 @@ pub struct Seen {
 fn take_in(had: u8, wanted: Kind, a: &Attrs) -> u8
     ensures { TakenIn (kind_number wanted) a.now.kind a.now.marks had result }
 {
-    if a.has_kind(wanted) { had | a.marks } else { had }
+    if a.has_kind(wanted) {
+        had | a.marks
+    } else {
+        had
+    }
 }
 
 // What the members declare.

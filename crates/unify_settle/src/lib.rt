@@ -65,9 +65,7 @@ fn member_agrees(slots: &Slots, j: usize, detail: Detail, v: u64) -> bool
 fn all_agree(slots: &Slots, members: &[usize], detail: Detail, v: u64) -> bool
     ensures { result ≡ all (agree (model_of slots.now.image).texts detail v) (declarations detail slots.now.attrs members.now) }
 {
-    members
-        .iter()
-        .all(|j| member_agrees(slots, *j, detail, v))
+    members.iter().all(|j| member_agrees(slots, *j, detail, v))
 }
 
 // The first value that the members declare for a detail, if all that they declare agrees with it.
