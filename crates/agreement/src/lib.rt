@@ -55,8 +55,8 @@ fn compare_results(
     if stored.counted != here {
         return Err(Difference::Counts);
     }
-    let at = compare_diagnostics(file, stored.diagnostics, image, report, here.total())
-        .map_err(Difference::Diagnostic)?;
+    let found = compare_diagnostics(file, stored.diagnostics, image, report, here.total());
+    let at = found.map_err(Difference::Diagnostic)?;
     if !filled_agrees(file, at, stored.filled, end, image, filled) {
         return Err(Difference::Filled);
     }

@@ -77,12 +77,7 @@ fn print_all<W: Write>(to: &mut W, image: &[u8], report: &[u8], answer: Answer) 
 {
     to.write_all(&first_line(answer))?;
     match answer {
-        Ok(counted) => print_report(
-            to,
-            image,
-            report,
-            counted.total(),
-        ),
+        Ok(counted) => print_report(to, image, report, counted.total()),
         Err(_) => Ok(()),
     }
 }

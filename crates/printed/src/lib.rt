@@ -111,11 +111,7 @@ fn put_line<const CAP: usize>(image: &Image, out: &mut ArrayVec<u8, CAP>, d: Dia
 }
 
 // The line of a refusal: its number, and an offset of any width.
-pub fn put_refusal<N: Number, const CAP: usize>(
-    out: &mut ArrayVec<u8, CAP>,
-    number: u32,
-    offset: N,
-)
+pub fn put_refusal<N: Number, const CAP: usize>(out: &mut ArrayVec<u8, CAP>, number: u32, offset: N)
     requires { array_vec_len out.old + longest_refused N.most ≤ CAP }
     ensures { out.new.items ≡ out.old.items ++ refused_line number (N.digits offset) }
 {
