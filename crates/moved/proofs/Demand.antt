@@ -1,4 +1,4 @@
--- Parts 3 to 7 of demand 3 over the definitions: of an accepted image without errors, and the model read again from the filled image. FORMAT 18.
+-- Values that move along connections, parts 3 to 7, over the definitions: of an accepted image without errors, and the model read again from the filled image. FORMAT 18.
 use Prim.Native.Nat.{ℕ, ◌+◌, ◌^◌, ◌<◌}
 use mathlib.Core.Path.{◌≡◌, refl, ap, ◌∙◌}
 use mathlib.Core.Bool.{true, false}

@@ -92,7 +92,7 @@ pub witness-report : report_after witness_image witness_image [] ≡ []
 unfolding report_after starts_with report_bytes
 witness-report = let c = witness-computes in rw (c.answered, c.report)
 
--- so demand 3 speaks of it: of what the call leaves, and of the two models
+-- so what is said of values that move speaks of it: of what the call leaves, and of the two models
 pub witness-left : Left witness_image 0 0 witness_filled []
 witness-left =
     let c = witness-computes in

@@ -1,4 +1,4 @@
--- Two images for demand 3, FORMAT 18: one that meets all its premises, and one that shows why attributes must be of their type's kind.
+-- Two images for values that move along connections, FORMAT 18: one that meets all its premises, and one that shows why attributes must be of their type's kind.
 use Rattle.std.specs.Prelude.{ℕ, List, [], ◌∷◌, ◌++◌}
 use Rattle.oce_model.specs.Format.{real_kind, string_kind, enum_kind, dir_in, dir_out, no_text, unit_bit, min_bit, max_bit}
 use Rattle.oce_model.specs.declared.Attrs.{Attrs}
