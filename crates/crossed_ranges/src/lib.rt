@@ -128,9 +128,9 @@ pub fn integer_range(a: IntAttrs, min: i64, max: i64) -> Range
 pub fn range_of(image: &Image, a: &Attrs) -> Range
     ensures { result ≡ range_of (model_of image.now).defaults a.now }
 {
-    if a.kind == Kind::Real as u8 {
+    if a.has_kind(Kind::Real) {
         real_range(a.real())
-    } else if a.kind == Kind::Integer as u8 {
+    } else if a.has_kind(Kind::Integer) {
         let layout = image.layout();
         integer_range(a.integer(), layout.min, layout.max)
     } else {

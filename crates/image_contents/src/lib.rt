@@ -93,7 +93,7 @@ pub fn bad_marks(a: &Attrs) -> bool
 {
     (a.kind > Kind::Enum as u8)
         | (a.is_marked(UNBOUNDED_VALUE_BIT) & !a.is_marked(UNBOUNDED_BIT))
-        | ((a.kind == Kind::Integer as u8) & bad_integer_marks(a))
+        | (a.has_kind(Kind::Integer) & bad_integer_marks(a))
         | ((a.kind > Kind::Integer as u8) & (a.marks != 0))
 }
 

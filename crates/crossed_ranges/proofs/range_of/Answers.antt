@@ -3,8 +3,8 @@ use borrow.Author.Rules.{rules}
 use Rattle.crossed_ranges.proofs.Read.{range-real, range-integer}
 use Rattle.crossed_ranges.proofs.range_of.Goals as goal
 
-pub returns-then-a : goal.returns-then-a
-returns-then-a c = search (range-real, rules)
+pub returns-then-has_kind : goal.returns-then-has_kind
+returns-then-has_kind c = search (range-real, rules)
 
-pub returns-then-a-2 : goal.returns-then-a-2
-returns-then-a-2 c = search (range-integer, rules)
+pub returns-then-has_kind-2 : goal.returns-then-has_kind-2
+returns-then-has_kind-2 c = search (range-integer, rules)
