@@ -1,7 +1,7 @@
 -- Laws of what stands at an offset, with the code's own tests.
 use Prim.Native.Nat.{ℕ, ◌+◌, ◌-◌, ◌<◌, ◌≤◌}
 use native.Mathlib.Omega.{arith}
-use mathlib.Core.Path.{◌≡◌, refl, sym, ap}
+use mathlib.Core.Path.{◌≡◌, refl, sym, ap, ◌∙◌}
 use mathlib.Core.Bool.{Bool, true, false, cond}
 use mathlib.Core.List.{List}
 use lib.Dec.{leb, ltb}
@@ -28,9 +28,9 @@ module _ (s : List ℕ) (at : ℕ) where
     whole-past h q = let past : length s < field_end s at = omega arith in rw (q, le-ltb at (length s) h, lt-leb _ _ past) refl
 
     -- a whole one, or one that runs past the end
-    pub whole-there : {b : Bool} → at < length s → b ≡ leb (leading_bytes + l.len) (length s - at) → then_some b l ≡ whole_at s at
+    pub whole-there : {b : Bool} {n : ℕ} → at < length s → n ≡ l.len → b ≡ leb (leading_bytes + n) (length s - at) → then_some b l ≡ whole_at s at
     unfolding field_end
-    whole-there {b} h q = arm b (sym q)
+    whole-there {b} h p q = arm b (sym (q ∙ ap (λ n. leb (leading_bytes + n) (length s - at)) p))
       where
         arm : (b : Bool) → leb (leading_bytes + l.len) (length s - at) ≡ b → then_some b l ≡ whole_at s at
         arm true r =

@@ -3,7 +3,7 @@
 #![tactic(auto)]
 
 ghost use Rattle.std.specs.Prelude.{◌≡◌, ◌+◌, ◌<◌, ◌≤◌, length, IfSome, Bool};
-ghost use Rattle.numbers.specs.Bytes.{byte_range, short_range, long_range};
+ghost use Rattle.numbers.specs.Bytes.{long_range};
 ghost use Rattle.oce_model.specs.Format.{leading_bytes};
 ghost use Rattle.oce_model.specs.Image.{ord_of, fields, first};
 ghost use Rattle.oce_model.specs.declared.Field.{Field};
@@ -13,7 +13,7 @@ mod fields;
 
 pub use fields::Fields;
 use image_faults::bad_tag;
-use numbers::at16;
+use numbers::LittleEndian;
 use oce_model::{FIELD_LENGTH_AT, Field, LEADING_BYTES};
 
 // ---- one field
@@ -29,42 +29,43 @@ fn ord_of(prev: usize, n: usize, t: usize) -> usize
 // The tag and the length of the contents that stand at an offset.
 #[derive(Clone, Copy)]
 pub struct Leading {
-    pub tag: usize,
-    pub len: usize,
+    pub tag: u8,
+    pub len: u16,
 }
 
 // Reads what stands at an offset. Bytes past the end count as 0.
 pub fn leading_at(s: &[u8], at: usize) -> Leading
-    ensures { (result ≡ leading_at s.now at) × (result.tag < byte_range) × (result.len < short_range) }
+    ensures { result ≡ leading_at s.now at }
 {
     if s.len() <= at {
         return Leading { tag: 0, len: 0 };
     }
     Leading {
-        tag: usize::from(s[at]),
-        len: at16(s, at + FIELD_LENGTH_AT),
+        tag: s[at],
+        len: u16::read_padded(s, at + FIELD_LENGTH_AT),
     }
 }
 
 // The same, where all of the field lies in the image.
 pub fn whole_at(s: &[u8], at: usize) -> Option<Leading>
     ensures whole { result ≡ whole_at s.now at }
-    ensures bounds { IfSome result (λ l. (l.tag < byte_range) × (l.len < short_range) × (at + leading_bytes + l.len ≤ length s.now)) }
+    ensures inside { IfSome result (λ l. at + leading_bytes + l.len ≤ length s.now) }
 {
     let l = leading_at(s, at);
-    (at < s.len() && LEADING_BYTES + l.len <= s.len() - at).then_some(l)
+    (at < s.len() && LEADING_BYTES + usize::from(l.len) <= s.len() - at).then_some(l)
 }
 
 // The field at an offset where these leading bytes stand, behind n fields with the tag prev.
 fn field_of(l: Leading, at: usize, prev: usize, n: usize) -> Field
     ensures { result ≡ field_of l at prev n }
 {
+    let tag = usize::from(l.tag);
     Field {
         at,
-        tag: l.tag,
-        len: l.len,
+        tag,
+        len: usize::from(l.len),
         prev,
-        ord: ord_of(prev, n, l.tag),
+        ord: ord_of(prev, n, tag),
     }
 }
 

@@ -23,8 +23,8 @@ pub fn found_at(image: &[u8], at: usize) -> Option<Found>
     let l = whole_at(image, at)?;
     Some(Found {
         at,
-        tag: l.tag as u8,
-        len: l.len as u16,
+        tag: l.tag,
+        len: l.len,
     })
 }
 

@@ -7,6 +7,6 @@ use Rattle.image_framing.proofs.whole_at.Goals.{then-at-s, else-at-s}
 pub returns-clause-whole : goal.returns-clause-whole
 returns-clause-whole c =
     elim c.if-at-s.branch [
-      | then-at-s w ↦ c.then_some.ensures ∙ whole-there _ _ c.leading_at-l.ensures.0 w.if-at-s.true w.then_some-is
-      | else-at-s w ↦ c.then_some.ensures ∙ whole-past _ _ c.leading_at-l.ensures.0 w.if-at-s.false w.then_some-is
+      | then-at-s w ↦ c.then_some.ensures ∙ whole-there _ _ c.leading_at-l.ensures w.if-at-s.true w.from.ensures w.then_some-is
+      | else-at-s w ↦ c.then_some.ensures ∙ whole-past _ _ c.leading_at-l.ensures w.if-at-s.false w.then_some-is
     ]
