@@ -147,11 +147,7 @@ pub fn warning(code: DiagCode, rule: u8, detail: u8, subject: Subject, place: u3
 {
     Diagnostic {
         severity: Severity::Warning,
-        code,
-        rule,
-        detail,
-        subject,
-        place,
+        ..error(code, rule, detail, subject, place)
     }
 }
 
@@ -243,15 +239,14 @@ fn count(c: Counted, d: Diagnostic) -> Counted
     requires { Countable 1 c }
     ensures { (result.errors ≡ c.errors + errors (d ∷ [])) × (result.warnings ≡ c.warnings + warnings (d ∷ [])) × (total result ≡ total c + 1) }
 {
-    let severity = d.severity;
-    match severity {
+    match d.severity {
         Severity::Error => Counted {
             errors: c.errors + 1,
-            warnings: c.warnings,
+            ..c
         },
         Severity::Warning => Counted {
-            errors: c.errors,
             warnings: c.warnings + 1,
+            ..c
         },
     }
 }
@@ -285,19 +280,16 @@ fn code_of(n: u8) -> DiagCode
 }
 
 // The subject of a kind's number and a number, none for another kind.
+#[tactic(auto, unfolding(crate::specs::Decoded::subject_from))]
 pub fn subject_from(kind: u8, number: u32) -> Subject
     ensures { result ≡ subject_from kind number }
 {
-    if kind == TEXT_SUBJECT {
-        return Subject::Text(number);
+    match kind {
+        TEXT_SUBJECT => Subject::Text(number),
+        CONNECTOR_SUBJECT => Subject::Connector(ConnectorId(number)),
+        BLOCK_SUBJECT => Subject::Block(BlockId(number)),
+        _ => Subject::Nothing,
     }
-    if kind == CONNECTOR_SUBJECT {
-        return Subject::Connector(ConnectorId(number));
-    }
-    if kind == BLOCK_SUBJECT {
-        return Subject::Block(BlockId(number));
-    }
-    Subject::Nothing
 }
 
 // The diagnostic whose bytes begin at an offset of a report.
