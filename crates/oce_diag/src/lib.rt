@@ -128,6 +128,7 @@ pub fn block_subject_of(instance: u16, id: BlockId) -> Subject
 }
 
 // An error.
+#[tactic(auto, unfolding(crate::specs::Diagnostics::diagnostic))]
 pub fn error(code: DiagCode, rule: u8, detail: u8, subject: Subject, place: u32) -> Diagnostic
     ensures { result ≡ error code rule detail subject place }
 {
@@ -142,6 +143,7 @@ pub fn error(code: DiagCode, rule: u8, detail: u8, subject: Subject, place: u32)
 }
 
 // A warning.
+#[tactic(auto, unfolding(crate::specs::Diagnostics::diagnostic))]
 pub fn warning(code: DiagCode, rule: u8, detail: u8, subject: Subject, place: u32) -> Diagnostic
     ensures { result ≡ warning code rule detail subject place }
 {
