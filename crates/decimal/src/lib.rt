@@ -18,6 +18,7 @@ pub trait Number {
 
     ghost most: { ℕ };
 
+    // The number in 64 bits: it has the same digits.
     fn widened(self) -> u64
         ensures same { wide_decimal result ≡ digits self }
         ensures few { length (digits self) ≤ most };

@@ -50,6 +50,7 @@ pub fn bad_ports(len: usize, inputs: usize, outputs: usize) -> bool
         | (MOST_PORTS < outputs)
 }
 
+// A block's length isn't that of its ports, or it has too many of them.
 #[tactic(auto, unfolding(oce_model::specs::Refusals::bad_block_length))]
 fn bad_block_length(s: &[u8], f: Field) -> bool
     requires { f.at ≤ longest_image }

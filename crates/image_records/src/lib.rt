@@ -1,5 +1,5 @@
-// The records of an accepted image, read by their numbers. Nothing here can fail: the layout says where
-// each record stands.
+// The records of an accepted image, read by their numbers. Once it is accepted no reading fails: the layout
+// says where each record stands.
 #![tactic(auto)]
 
 ghost use Rattle.std.specs.Prelude.{cond, eqb, ◌≡◌, ◌+◌, ◌≤◌, length};

@@ -255,8 +255,7 @@ fn count(c: Counted, d: Diagnostic) -> Counted
 
 // ---- reading it back
 
-// The severity, the code and the subject that have the given numbers. Numbers that nothing has are read as
-// some diagnostic's.
+// The severity of a number: one that none has is read as a warning's.
 fn severity_of(n: u8) -> Severity
     ensures { result ≡ severity_of n }
 {
@@ -266,6 +265,7 @@ fn severity_of(n: u8) -> Severity
     Severity::Warning
 }
 
+// The code of a number: one that none has is read as the last code's.
 fn code_of(n: u8) -> DiagCode
     ensures { result ≡ code_of n }
 {

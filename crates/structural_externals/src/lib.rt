@@ -1,5 +1,5 @@
-// The external inputs of an image where an id is looked up in few steps: each small id has a mark, the others
-// stand in ascending order.
+// The external inputs of an image, kept so that an id is looked up in few steps: an id below the number of marks
+// has one of its own, the others stand in ascending order.
 #![tactic(auto)]
 
 ghost use Rattle.std.specs.Prelude.{◌≡◌, ◌≤◌, length};
