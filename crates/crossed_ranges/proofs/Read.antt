@@ -10,6 +10,7 @@ use mir.Val.{SFits}
 use mir.Facts.{to_z-of_z}
 use borrow.Author.Tests.{eq-eqb, ne_eqb}
 use Rattle.std.specs.Prelude.{Option, Some, None}
+use Rattle.std.specs.Option.{option_map, unwrap_or}
 use Rattle.std.proofs.Common.{to_z, of_z}
 use Rattle.numbers.specs.Bytes.{bit, signed64, real64}
 use Rattle.oce_model.specs.Format.{real_kind, integer_kind, min_bit, max_bit}
@@ -46,7 +47,7 @@ integer-same : (d : Defaults) (a : Attrs) → integer_read (int_attrs a) d.min d
 unfolding integer_read int_attrs declared_at integer_range
 integer-same d a = rw (arm (bit a.marks min_bit) (num a min_bit) d.min, arm (bit a.marks max_bit) (num a max_bit) d.max)
   where
-    arm : (b : Bool) (v : ℕ) (d : ℤ) → cond b (signed64 v) d ≡ or_default (marked b v) d
+    arm : (b : Bool) (v : ℕ) (d : ℤ) → unwrap_or (option_map signed64 (marked b v)) d ≡ or_default (marked b v) d
     arm true v d = refl
     arm false v d = refl
 

@@ -1,5 +1,6 @@
 -- The range of attributes as code has them, by value.
 use Rattle.std.specs.Prelude.{Bool, true, false, cond, ◌&&◌, ℤ, Float, Option, Some, None}
+use Rattle.std.specs.Option.{unwrap_or}
 use Rattle.std.specs.Float.Ieee.Scale.{finite}
 use Rattle.numbers.specs.Bytes.{bit}
 use Rattle.oce_model.specs.Format.{min_bit, max_bit}
@@ -27,4 +28,4 @@ real_read a =
 
 -- the range of Integer attributes, by the head's defaults
 unfoldable pub integer_read : IntAttrs → ℤ → ℤ → Option Bounds
-integer_read a min max = Some (Integer (cond (bit a.marks min_bit) a.min min) (cond (bit a.marks max_bit) a.max max))
+integer_read a min max = Some (Integer (unwrap_or a.min min) (unwrap_or a.max max))

@@ -117,10 +117,7 @@ pub fn real_range(a: RealAttrs) -> Range
 pub fn integer_range(a: IntAttrs, min: i64, max: i64) -> Range
     ensures { result ≡ integer_read a min max }
 {
-    Some(Bounds::Integer(
-        if is_set(a.marks, MIN_BIT) { a.min } else { min },
-        if is_set(a.marks, MAX_BIT) { a.max } else { max },
-    ))
+    Some(Bounds::Integer(a.min.unwrap_or(min), a.max.unwrap_or(max)))
 }
 
 // The range of attributes, by the defaults of the image's head; `None` where they have none.

@@ -1,6 +1,7 @@
 -- Attributes: 32 bytes of the image, and what they declare. FORMAT 4; the Rust's `Attrs`, `RealAttrs` and `IntAttrs`.
 use Rattle.std.specs.Prelude.{ℕ, ◌+◌, ◌^◌, Bool, true, false, List, [], ◌∷◌, ◌++◌, get_or, set}
 use Rattle.std.specs.Prelude.{Option, Some, None}
+use Rattle.std.specs.Option.{option_map}
 use Rattle.numbers.specs.Bytes.{byte, le16, le64, le_bytes, bit, signed64, real64}
 use Rattle.oce_model.specs.Format.{quantity_bit, unit_bit, display_unit_bit, min_bit, max_bit, nominal_bit, attrs_marks_at, attrs_quantity_at, attrs_unit_at, attrs_display_unit_at, attrs_min_at, attrs_max_at, attrs_nominal_at}
 use Rattle.oce_model.specs.declared.RealAttrs.{RealAttrs}
@@ -57,6 +58,6 @@ real_attrs a = record {
   nominal = real64 (num a nominal_bit);
 }
 
--- Integer attributes, the Rust's `IntAttrs`
+-- Integer attributes, the Rust's `IntAttrs`: the ends that are declared, as signed numbers
 unfoldable pub int_attrs : Attrs → IntAttrs
-int_attrs a = record { marks = a.marks; min = signed64 (num a min_bit); max = signed64 (num a max_bit) }
+int_attrs a = record { min = option_map signed64 (declared_at a min_bit); max = option_map signed64 (declared_at a max_bit) }

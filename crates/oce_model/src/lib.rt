@@ -98,12 +98,11 @@ pub struct RealAttrs {
     pub nominal: f64,
 }
 
-// The Rust's `IntAttrs`.
+// The Rust's `IntAttrs`: the ends that are set.
 #[derive(Clone, Copy)]
 pub struct IntAttrs {
-    pub marks: usize,
-    pub min: i64,
-    pub max: i64,
+    pub min: Option<i64>,
+    pub max: Option<i64>,
 }
 
 // The Rust's `Connection`.
@@ -167,10 +166,11 @@ impl Attrs {
     pub fn integer(&self) -> IntAttrs
         ensures { result ≡ int_attrs self.now }
     {
+        let min = int_of_bits(self.nums[MIN_BIT]);
+        let max = int_of_bits(self.nums[MAX_BIT]);
         IntAttrs {
-            marks: usize::from(self.marks),
-            min: int_of_bits(self.nums[MIN_BIT]),
-            max: int_of_bits(self.nums[MAX_BIT]),
+            min: self.is_marked(MIN_BIT).then_some(min),
+            max: self.is_marked(MAX_BIT).then_some(max),
         }
     }
 }
