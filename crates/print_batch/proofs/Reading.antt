@@ -3,14 +3,14 @@ use Prim.Native.Nat.{ℕ, ◌<◌, ◌≤◌}
 use mathlib.Core.Path.{◌≡◌, refl, ap, ◌∙◌, subst}
 use mathlib.Core.Bool.{Bool, true, false, cond}
 use mathlib.Core.List.{List}
-use lib.ListN.{length, replicate, length-replicate}
+use lib.ListN.{length, take, drop, replicate, length-replicate}
 use borrow.Author.Tests.{lt-ltb, le-ltb, ltb-false}
 use Rattle.std.specs.Prelude.{Option, Result, Ok, Err, OnOk, MatchResult, IsErrAnd}
 use Rattle.std.specs.Io.KnownBytes.{Appends, Consumes}
 use Rattle.std.proofs.lemmas.Result.{err_from_is_err_and}
 use Rattle.std.specs.declared.io.Error.{Error}
 use Rattle.batch.specs.Answer.{output_after}
-use Rattle.print_batch.specs.Reading.{longest_batch, is_longer, as_written, ending_of, output_left, PrintedAs, SomeRead, PrintedFrom}
+use Rattle.print_batch.specs.Reading.{longest_batch, is_longer, as_written, ending_of, output_left, PrintedAs, ReadAs, SomeRead, PrintedFrom}
 use Rattle.printed_batch.specs.PrintedBatch.{printed_batch}
 use Rattle.print_batch.specs.declared.Unprinted.{Unprinted}
 use Rattle.print_batch.specs.declared.Unprinted.TheVariants.{Unreadable, TooLong, NotWritten}
@@ -37,6 +37,13 @@ failed (Err w) why b o m = record { read = Err w; left = record { written = Ok t
 pub read_ok : (r : Result ℕ Error) (n : ℕ) → MatchResult r (λ x. ◌≡◌ {A = Result ℕ Unprinted} (Ok n) (Ok x)) (λ w. ⊥) → r ≡ Ok n
 read_ok (Ok m) n h = cc
 read_ok (Err w) n h = absurd h
+
+-- what was printed of n bytes that were read
+pub read_as : {read : Result ℕ Error} {n : ℕ} {b o o' t : List ℕ} {e : Result (Unit {0}) Unprinted} → read ≡ Ok n → PrintedAs t o o' e → t ≡ take n (drop 0 b) → ReadAs read b o o' e
+read_as {n = n} {b = b} {o = o} {o' = o'} {e = e} k p q = let r : PrintedAs (take n b) o o' e = rw (← q) p in record { written = r.written; ending = rw k r.ending; output = rw k r.output }
+
+pub nothing_read : {read : Result ℕ Error} {why : Error} {b o : List ℕ} → read ≡ Err why → ReadAs read b o o (Err (Unreadable why))
+nothing_read k = record { written = Ok tt; ending = rw k; output = rw k }
 
 -- a batch that is printed isn't too long
 taken : {s o o' : List ℕ} {u : Unit {0}} → PrintedAs s o o' (Ok u) → length s ≤ longest_batch

@@ -1,10 +1,10 @@
 -- Laws of a report that a check leaves.
-use Prim.Native.Nat.{ℕ, ◌≤◌, ◌<◌}
+use Prim.Native.Nat.{ℕ, ◌+◌, ◌-◌, ◌≤◌, ◌<◌}
 use native.Mathlib.Omega.{arith}
-use mathlib.Core.Path.{◌≡◌, refl, sym}
+use mathlib.Core.Path.{◌≡◌, refl, sym, ap, ◌∙◌}
 use mathlib.Core.Bool.{Bool, true, false, cond}
 use mathlib.Core.List.{List, [], ◌++◌, append-nil}
-use Rattle.std.specs.Prelude.{Option, Some, None, Ok, Err}
+use Rattle.std.specs.Prelude.{Option, Some, None, Ok, Err, is_ok}
 use lib.Dec.{ltb}
 use lib.ListN.{length}
 use borrow.Author.Tests.{ltb-false}
@@ -18,8 +18,9 @@ use Rattle.oce_diag.specs.Encoding.{report_bytes}
 use Rattle.oce_diag.proofs.Diagnostics.{errors-warnings}
 use Rattle.oce_diag.specs.declared.Counted.{Counted}
 use Rattle.outcome.specs.Answer.{Answer, report_of, report_size, answer_for, answer, if_checked, report_after}
-use Rattle.printed.specs.Printed.{first_line, lines_from, printed}
-use Rattle.printed.specs.Pieces.{Row}
+use Rattle.printed.specs.Printed.{first_line, lines_from, printed, longest_line}
+use Rattle.printed.specs.Pieces.{Row, Pieced}
+use Rattle.field_lines.specs.Lines as listed
 use Rattle.printed.proofs.Row.{row-report}
 use Rattle.printed.proofs.Whole.{printed-whole}
 use Rattle.print_check.specs.Outcome.{longest_report, count_of, Reported}
@@ -84,3 +85,24 @@ known {s} {a} {report} bytes v = rw (v.bytes, v.answer) (known-for s v.lent byte
 pub refused_alone : (s : List ℕ) {a : Answer} {r : Refusal} → a ≡ Err r → printed s a ≡ first_line a
 unfolding printed
 refused_alone s e = rw e
+
+-- ---- pieces of lines
+
+-- a piece in which the longest line has room leaves fewer diagnostics
+pub piece-less : {s report : List ℕ} {from count room next : ℕ} {b b' : List ℕ} → Pieced s report from count room b b' next → length b + longest_line ≤ room → from < count → count - next < count - from
+piece-less p l h = let m = p.moves h l in omega (arith, m, p.within)
+
+pub piece-within : {s report : List ℕ} {from count room next : ℕ} {b b' : List ℕ} → Pieced s report from count room b b' next → next ≤ count
+piece-within p = p.within
+
+-- the next field to list is in the image
+pub fields_within : {s : List ℕ} {from room at : ℕ} {b b' : List ℕ} → listed.Pieced s from room b b' (Some at) → at ≤ length s
+fields_within p = p.within
+
+-- ---- what an answer says
+
+pub counted-row : {a : Answer} {c : Counted} {b : List ℕ} → Row b (count_of a) → a ≡ Ok c → Row b (c.errors + c.warnings)
+counted-row {c = c} {b = b} r q = rw q at r
+
+pub checked-as : (s : List ℕ) (filled room : ℕ) {a : Answer} {r : Bool} → r ≡ is_ok a → a ≡ answer s filled room → room ≡ longest_report → r ≡ is_ok (answer s filled longest_report)
+checked-as s filled room e q n = e ∙ ap is_ok q ∙ ap (λ (m : ℕ). is_ok (answer s filled m)) n

@@ -5,10 +5,11 @@ use native.Mathlib.Omega.{arith}
 use mathlib.Core.Path.{◌≡◌, refl, sym, ap, ◌∙◌}
 use mathlib.Core.List.{List, [], ◌∷◌}
 use lib.Dec.{eqb}
-use lib.ListN.{length, get_or, set}
+use lib.ListN.{length, get_or, set, take}
+use lib.Seq.{get_or-take}
 use borrow.Author.Tests.{eq-eqb, ne_eqb}
 use Rattle.base.specs.Lists.{tally}
-use Rattle.base.proofs.Lists.{each_same, length-tab, get_or-tab, tab-get_or, set-tab, tally-yes, tally-no, tally-le}
+use Rattle.base.proofs.Lists.{each_same, length-tab, get_or-tab, tab-get_or, set-tab, tally-yes, tally-no, tally-same, tally-le}
 use Rattle.oce_model.specs.declared.Connection.{Connection}
 use Rattle.structural_degrees.specs.Counted.{absent, lead_to, counted, Spare}
 
@@ -59,3 +60,8 @@ room-left ds cs i j spare h l =
     let few : lead_to cs i j ≤ i = tally-le i (λ k. eqb (to cs k) j) in
     let fits : get_or ds j 0 + length cs < 2 ^ 32 = spare.at j in
     omega (arith, is, few, fits)
+
+-- the first n of a list, counted, are the list's first n
+pub counted-take : (ds : List ℕ) (cs : List Connection) (n : ℕ) → counted ds (take n cs) n ≡ counted ds cs n
+unfolding counted
+counted-take ds cs n = each_same (length ds) _ _ (λ j h. ap (λ x. (get_or ds j 0 + x) ∷ []) (tally-same n _ _ (λ k l. ap (λ (c : Connection). eqb c.to.0 j) (get_or-take n cs k absent l))))
