@@ -1,11 +1,13 @@
 -- Laws of the filled image: one slot's bytes, where they stand, and the loop over slots.
 use Prim.Native.Nat.{ℕ, zero, suc, ◌+◌, ◌*◌, ◌-◌, ◌%◌, ◌≤◌, ◌<◌}
+use native.Mathlib.Nat.{zero-add}
 use native.Mathlib.Numerals.{add-one}
 use native.Mathlib.Omega.{arith}
 use mathlib.Core.Path.{◌≡◌, refl, sym, ap, ◌∙◌}
-use mathlib.Core.List.{List, [], ◌∷◌, ◌++◌, append_assoc}
+use mathlib.Core.List.{List, [], ◌∷◌, ◌++◌, append_assoc, append-nil}
 use lib.ListN.{length, get_or, take, drop, length-append}
 use lib.Seq.{take-append-le, drop-append-le}
+use Rattle.std.proofs.lemmas.List.{drop_all}
 use Rattle.base.specs.Lists.{steps}
 use Rattle.base.specs.Buffers.{patch, starts_with}
 use Rattle.base.proofs.Buffers.{patch-length, patch-patch}
@@ -78,6 +80,28 @@ module _ (s : List ℕ) (at : ℕ) (a : Attrs) where
   pub patch-attrs : {s₁ s₂ s₃ : List ℕ} → s₃ ≡ patch s₂ (at + attrs_min_at) (end_bytes a) → s₂ ≡ patch s₁ (at + attrs_quantity_at) (text_bytes a) → s₁ ≡ patch s at (lead_bytes a) → at + attrs_length ≤ length s → s₃ ≡ patch s at (attrs_bytes a)
   unfolding attrs_bytes lead_bytes text_bytes end_bytes le_bytes
   patch-attrs h g f fits = patch-three s at attrs_quantity_at attrs_min_at (lead_bytes a) (text_bytes a) (end_bytes a) h g f refl refl (omega arith)
+
+-- a patch of as many bytes as there are
+patch-all : (s bs : List ℕ) → length s ≡ length bs → patch s 0 bs ≡ bs
+unfolding patch
+patch-all s bs e = rw (zero-add, drop_all (length bs) s (omega (arith, e))) (append-nil bs)
+
+text-size : (a : Attrs) → length (text_bytes a) ≡ 6
+unfolding text_bytes le_bytes
+text-size a = refl
+
+-- all of them, written into room for just them
+pub encoded : (a : Attrs) (s : List ℕ) {s₁ s₂ s₃ s₄ s₅ s₆ s₇ : List ℕ} {k m x y z u v w : ℕ} → length s ≡ attrs_length → s₁ ≡ patch s 0 (k ∷ m ∷ [])
+    → s₂ ≡ patch s₁ attrs_quantity_at (le_bytes 2 (x % short_range)) → s₃ ≡ patch s₂ attrs_unit_at (le_bytes 2 (y % short_range)) → s₄ ≡ patch s₃ attrs_display_unit_at (le_bytes 2 (z % short_range))
+    → s₅ ≡ patch s₄ attrs_min_at (le_bytes 8 u) → s₆ ≡ patch s₅ attrs_max_at (le_bytes 8 v) → s₇ ≡ patch s₆ attrs_nominal_at (le_bytes 8 w)
+    → k ≡ a.kind → m ≡ a.marks → x ≡ num a quantity_bit → y ≡ num a unit_bit → z ≡ num a display_unit_bit → u ≡ num a min_bit → v ≡ num a max_bit → w ≡ num a nominal_bit
+    → s₇ ≡ attrs_bytes a
+encoded a s {s₁} {s₄ = s₄} {k = k} {m = m} n h₁ h₂ h₃ h₄ h₅ h₆ h₇ ek em ex ey ez eu ev ew =
+    let n₁ : length s₁ ≡ attrs_length = ap length h₁ ∙ patch-length s 0 (k ∷ m ∷ []) (omega (arith, n)) ∙ n in
+    let t : s₄ ≡ patch s₁ attrs_quantity_at (text_bytes a) = patch-texts s₁ 0 a h₄ h₃ h₂ ex ey ez (omega (arith, n₁)) in
+    let n₄ : length s₄ ≡ attrs_length = ap length t ∙ patch-length s₁ attrs_quantity_at (text_bytes a) (omega (arith, n₁, text-size a)) ∙ n₁ in
+    patch-attrs s 0 a (patch-ends s₄ 0 a h₇ h₆ h₅ eu ev ew (omega (arith, n₄))) t (patch-lead s 0 a h₁ ek em) (omega (arith, n))
+    ∙ patch-all s (attrs_bytes a) (n ∙ sym (bytes-length a))
 
 -- ---- where a slot's attributes stand
 

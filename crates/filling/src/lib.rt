@@ -1,65 +1,41 @@
 // The filled image (FORMAT 17): the attributes of slots, written over those of the image.
 #![tactic(auto)]
 
-ghost use Rattle.std.specs.Prelude.{◌≡◌, ℕ, ◌+◌, ◌≤◌, ◌<◌, length, get_or, slice_index};
-ghost use Rattle.base.specs.Buffers.{patch, starts_with};
+ghost use Rattle.std.specs.Prelude.{◌≡◌, ℕ, ◌≤◌, ◌<◌, length, get_or, slice_index};
+ghost use Rattle.base.specs.Buffers.{starts_with};
 ghost use Rattle.numbers.specs.Bytes.{byte_range};
-ghost use Rattle.oce_model.specs.Format.{attrs_length, attrs_quantity_at, attrs_min_at};
 ghost use Rattle.oce_model.specs.Attributes.{attrs_bytes};
 ghost use Rattle.oce_model.specs.Model.{model_of};
 ghost use Rattle.unify_slots.specs.Slots.{slot_count};
 ghost use Rattle.outcome.specs.Filled.{slot_offsets, with_slots};
-ghost use Rattle.filling.specs.Parts.{lead_bytes, text_bytes, end_bytes};
 
 use base::copy_at;
 use image_records::Image;
 use numbers::{LittleEndian, SHORT_RANGE_U64};
 use oce_model::{
-    ATTRS_DISPLAY_UNIT_AT, ATTRS_MAX_AT, ATTRS_MIN_AT, ATTRS_NOMINAL_AT, ATTRS_QUANTITY_AT,
-    ATTRS_UNIT_AT, Attrs, BOUNDARY_OUTPUT_ATTRS, BOUNDARY_OUTPUT_SIZE, CONNECTOR_ATTRS,
-    CONNECTOR_SIZE, DISPLAY_UNIT_BIT, MAX_BIT, MIN_BIT, NOMINAL_BIT, QUANTITY_BIT, UNIT_BIT,
+    ATTRS_DISPLAY_UNIT_AT, ATTRS_LENGTH, ATTRS_MAX_AT, ATTRS_MIN_AT, ATTRS_NOMINAL_AT,
+    ATTRS_QUANTITY_AT, ATTRS_UNIT_AT, Attrs, BOUNDARY_OUTPUT_ATTRS, BOUNDARY_OUTPUT_SIZE,
+    CONNECTOR_ATTRS, CONNECTOR_SIZE, DISPLAY_UNIT_BIT, MAX_BIT, MIN_BIT, NOMINAL_BIT, QUANTITY_BIT,
+    UNIT_BIT,
 };
 use unify_slots::Slots;
 
-// Kind and marks of a slot.
-fn store_lead(filled: &mut [u8], at: usize, slot: &Attrs)
-    requires { at + attrs_length ≤ length filled.old }
-    ensures { filled.new ≡ patch filled.old at (lead_bytes slot.now) }
+// The bytes of a slot: kind and marks, its text numbers by their low 16 bits, its numbers of 64 bits.
+fn encode(slot: &Attrs) -> [u8; ATTRS_LENGTH]
+    ensures { result ≡ attrs_bytes slot.now }
 {
-    copy_at(filled, at, &[slot.kind, slot.marks]);
-}
-
-// Its text numbers, by their low 16 bits.
-fn store_texts(filled: &mut [u8], at: usize, slot: &Attrs)
-    requires { at + attrs_length ≤ length filled.old }
-    ensures { filled.new ≡ patch filled.old (at + attrs_quantity_at) (text_bytes slot.now) }
-{
+    let mut bytes = [0; ATTRS_LENGTH];
+    copy_at(&mut bytes, 0, &[slot.kind, slot.marks]);
     let quantity = (slot.nums[QUANTITY_BIT] % SHORT_RANGE_U64) as u16;
     let unit = (slot.nums[UNIT_BIT] % SHORT_RANGE_U64) as u16;
     let display = (slot.nums[DISPLAY_UNIT_BIT] % SHORT_RANGE_U64) as u16;
-    quantity.write(filled, at + ATTRS_QUANTITY_AT);
-    unit.write(filled, at + ATTRS_UNIT_AT);
-    display.write(filled, at + ATTRS_DISPLAY_UNIT_AT);
-}
-
-// Its numbers of 64 bits.
-fn store_ends(filled: &mut [u8], at: usize, slot: &Attrs)
-    requires { at + attrs_length ≤ length filled.old }
-    ensures { filled.new ≡ patch filled.old (at + attrs_min_at) (end_bytes slot.now) }
-{
-    slot.nums[MIN_BIT].write(filled, at + ATTRS_MIN_AT);
-    slot.nums[MAX_BIT].write(filled, at + ATTRS_MAX_AT);
-    slot.nums[NOMINAL_BIT].write(filled, at + ATTRS_NOMINAL_AT);
-}
-
-// All of it.
-fn store_slot(filled: &mut [u8], at: usize, slot: &Attrs)
-    requires { at + attrs_length ≤ length filled.old }
-    ensures { filled.new ≡ patch filled.old at (attrs_bytes slot.now) }
-{
-    store_lead(filled, at, slot);
-    store_texts(filled, at, slot);
-    store_ends(filled, at, slot);
+    quantity.write(&mut bytes, ATTRS_QUANTITY_AT);
+    unit.write(&mut bytes, ATTRS_UNIT_AT);
+    display.write(&mut bytes, ATTRS_DISPLAY_UNIT_AT);
+    slot.nums[MIN_BIT].write(&mut bytes, ATTRS_MIN_AT);
+    slot.nums[MAX_BIT].write(&mut bytes, ATTRS_MAX_AT);
+    slot.nums[NOMINAL_BIT].write(&mut bytes, ATTRS_NOMINAL_AT);
+    bytes
 }
 
 // Where the attributes of slot j stand.
@@ -95,6 +71,6 @@ pub fn fill_image(slots: &Slots, filled: &mut [u8])
     let attrs = slots.attrs();
     copy_image(image.bytes(), filled);
     for (j, slot) in attrs.iter().enumerate() {
-        store_slot(filled, slot_offset(image, j), slot);
+        copy_at(filled, slot_offset(image, j), &encode(slot));
     }
 }

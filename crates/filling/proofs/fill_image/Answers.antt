@@ -1,5 +1,6 @@
 -- `filling::fill_image` meets its contract.
 use Rattle.std.proofs.Common.{◌≡◌, ap, length, arith, rules}
+use Rattle.oce_model.proofs.Attributes.{bytes-length}
 use Rattle.filling.proofs.Laws.{fills-start, fills-inside, fills-fit, fills-turn, fills-done}
 use Rattle.filling.proofs.fill_image.Goals as goal
 
@@ -11,11 +12,11 @@ loop-j-init c =
 pub slot_offset-requires : goal.slot_offset-requires
 slot_offset-requires c = fills-inside c.loop-j.invariant (search rules)
 
-pub store_slot-requires : goal.store_slot-requires
-store_slot-requires c = fills-fit c.loop-j.invariant c.slot_offset.ensures (search rules)
+pub copy_at-requires : goal.copy_at-requires
+copy_at-requires c = rw (c.encode.ensures, bytes-length _) (fills-fit c.loop-j.invariant c.slot_offset.ensures (search rules))
 
 pub loop-j-preserved : goal.loop-j-preserved
-loop-j-preserved c = fills-turn c.loop-j.invariant _ c.store_slot.ensures c.slot_offset.ensures (search rules) (search rules)
+loop-j-preserved c = fills-turn c.loop-j.invariant _ (rw c.encode.ensures at c.copy_at.ensures) c.slot_offset.ensures (search rules) (search rules)
 
 pub returns : goal.returns
 returns c =
