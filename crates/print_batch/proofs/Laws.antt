@@ -16,7 +16,6 @@ use Rattle.oce_model.specs.Refusals.{refusal}
 use Rattle.oce_model.specs.declared.Refusal.{Refusal}
 use Rattle.oce_model.specs.declared.Field.{Field}
 use Rattle.oce_diag.specs.Encoding.{diagnostic_size, report_bytes}
-use Rattle.oce_diag.specs.Putting.{total}
 use Rattle.oce_diag.proofs.Diagnostics.{errors-warnings}
 use Rattle.outcome.specs.Answer.{Answer, report_of}
 use Rattle.printed.specs.Pieces.{Row}
@@ -30,10 +29,10 @@ use Rattle.batch_framing.proofs.Finds.{found-clean}
 use Rattle.batch_framing.proofs.Passes.{ahead-start, ahead-next, ahead-at, ahead-few, ahead-ord}
 use Rattle.printed.specs.Printed.{first_line, printed, lines_from}
 use Rattle.printed_batch.specs.PrintedBatch.{image_line, refusal_line, image_text, image_texts, printed_batch}
-use Rattle.printed_batch.specs.ReadBack.{counted_in, answer_in}
+use Rattle.printed_batch.specs.ReadBack.{answer_in}
 use Rattle.batch.proofs.Sizes.{report-long, output-long}
-use Rattle.printed_batch.proofs.ReadBack.{counted-there, answer-there, answer-single}
-use Rattle.printed_batch.proofs.Whole.{answer-first, count-first, report-first, next-first, printed-there, image-bytes, written-faultless, written-needed}
+use Rattle.printed_batch.proofs.ReadBack.{answer-there, answer-single}
+use Rattle.printed_batch.proofs.Whole.{answer-first, report-first, next-first, printed-there, image-bytes, written-faultless, written-needed}
 use Rattle.print_check.proofs.Laws.{none_row, no_lines}
 use Rattle.print_batch.specs.Printing.{Left, Part}
 
@@ -111,37 +110,33 @@ module _ {s out : List ℕ} {rest : List Field} {o : ℕ} {old new : Known (List
     pub printing-room : o + summary_size < long_range
     printing-room = let l = low in let e = size in omega arith
 
-    module _ {a : Answer} (e : a ≡ answer_in out o) {k : ℕ} (z : k ≡ total (counted_in out o)) where
+    module _ {a : Answer} (e : a ≡ answer_in out o) where
       is : a ≡ summary_of t
       is = let l = low in e ∙ answer-there out o ∙ ap (λ (b : List ℕ). answer_in b 0) here ∙ answer-first t more (omega arith)
 
-      -- as many diagnostics are counted as the answer counts
-      count : k ≡ count_of a
-      count = let l = low in rw (z, is, counted-there out o, here) (count-first t more (omega arith))
+      pub printing-end : {n : ℕ} → n ≡ size_of a → o + n < word_range
+      printing-end m = let l = low in let n = size in rw (m, is) (omega arith)
 
-      pub printing-end : o + (summary_size + diagnostic_size * k) < word_range
-      printing-end = let l = low in let n = size in rw (count, is) (omega arith)
-
-      pub printing-part : Part s f out o a × (k ≡ count_of a)
+      pub printing-part : Part s f out o a
       unfolding t
       printing-part =
           let there : drop (o + summary_size) out ≡ image_report t ++ more = sym (drop-drop summary_size o out) ∙ ap (drop summary_size) here ∙ report-first t more in
           let taken : take (diagnostic_size * count_of (summary_of t)) (drop (o + summary_size) out) ≡ image_report t = rw (there, ← report-long t) (take-append_seam (image_report t) more) in
-          (record {
+          record {
             within = ahead-at v.ahead q;
             few = ahead-few v.ahead q;
             answer = is;
-            room = rw count at printing-end;
+            room = printing-end refl;
             report = rw is taken;
             row = rw (is, taken) (row-there t);
-          }, count)
+          }
 
-      pub printing-turn : {next : Known (List ℕ)} → Appends new next (image_text f.ord (image_in s f)) → Printing s out later (o + (summary_size + diagnostic_size * k)) old next
+      pub printing-turn : {n : ℕ} {next : Known (List ℕ)} → Appends new next (image_text f.ord (image_in s f)) → n ≡ size_of a → Printing s out later (o + n) old next
       unfolding more image_texts
-      printing-turn {next = next} w =
-          let m : summary_size + diagnostic_size * k ≡ size_of (summary_of t) = ap (λ n. summary_size + diagnostic_size * n) count ∙ ap size_of is in
+      printing-turn {n} {next = next} w z =
+          let m : n ≡ size_of (summary_of t) = z ∙ ap size_of is in
           let l = low in
-          let big = size in
+          let k = size in
           record {
             i = v.i + 1;
             ahead = ahead-next v.ahead q;

@@ -4,14 +4,13 @@
 ghost use Rattle.std.specs.Prelude.{◌≡◌, ◌<◌, length, OnOk};
 ghost use Rattle.std.specs.Io.KnownBytes.{Appends};
 ghost use Rattle.batch.specs.Fields.{image_in, images};
-ghost use Rattle.batch.specs.Output.{count_of};
 ghost use Rattle.batch.specs.Answer.{output_after};
 ghost use Rattle.printed_batch.specs.PrintedBatch.{image_text, image_texts, printed_batch};
 ghost use Rattle.print_batch.specs.Printing.{Left, Part};
 ghost use Rattle.print_batch.specs.Reading.{longest_batch, read_output, PrintedAs, SomeRead, PrintedFrom};
 
 use base::part_of;
-use batch::SUMMARY_SIZE;
+use batch::{SUMMARY_SIZE, count_of, size_of};
 use batch_check::check_batch;
 use batch_framing::image_in;
 use image_framing::Fields;
@@ -19,7 +18,7 @@ use oce_diag::DIAGNOSTIC_SIZE;
 use oce_model::Field;
 use outcome::Answer;
 use print_check::{print_report, read_from};
-use printed_batch::{answer_in, counted_in, image_lines, refusal_line};
+use printed_batch::{answer_in, image_lines, refusal_line};
 use std::io;
 use std::io::{Error, ErrorKind, Read, Write};
 
@@ -37,7 +36,7 @@ const READ_OUTPUT: usize = 2097152;
 
 // ---- one image
 
-// Prints the image in a field, whose part of the output begins at o with its answer, which counts so many diagnostics.
+// Prints the image in a field, whose part of the output begins at o with its answer.
 fn print_image<W: Write>(
     to: &mut W,
     batch: &[u8],
@@ -45,12 +44,12 @@ fn print_image<W: Write>(
     output: &[u8],
     o: usize,
     answer: Answer,
-    count: usize,
 ) -> io::Result<()>
-    requires { Part batch.now f output.now o answer × (count ≡ count_of answer) }
+    requires { Part batch.now f output.now o answer }
     ensures { OnOk result (Appends (W.contents to.old) (W.contents to.new) (image_text f.ord (image_in batch.now f))) }
 {
     to.write_all(&image_lines(f.ord as u32, answer))?;
+    let count = count_of(answer);
     if count == 0 {
         return Ok(());
     }
@@ -76,9 +75,8 @@ fn print_images<W: Write>(to: &mut W, batch: &[u8], output: &[u8], n: usize) -> 
     let mut o = 0;
     for f in Fields::of(batch) {
         let answer = answer_in(output, o);
-        let count = counted_in(output, o).total();
-        print_image(to, batch, f, output, o, answer, count)?;
-        o += SUMMARY_SIZE + DIAGNOSTIC_SIZE * count;
+        print_image(to, batch, f, output, o, answer)?;
+        o += size_of(answer);
     }
     Ok(())
 }
