@@ -30,18 +30,17 @@ pub fn put_label<const CAP: usize>(out: &mut ArrayVec<u8, CAP>, subject: Subject
     }
 }
 
-// The same alone, of a kind and a number.
-#[tactic(auto, using(crate::proofs::Laws::label_from))]
-fn label_of(kind: u8, number: u32) -> ArrayVec<u8, LEAST_SCRATCH>
-    ensures { result.items ≡ labelled kind number }
+// The same alone.
+fn label_of(subject: Subject) -> ArrayVec<u8, LEAST_SCRATCH>
+    ensures { result.items ≡ label subject }
 {
     let mut label = ArrayVec::new();
-    put_label(&mut label, subject_from(kind, number));
+    put_label(&mut label, subject);
     label
 }
 
 // Puts the same at the start of the scratch, where it has room, and gives the length written.
-#[tactic(auto, unfolding(crate::specs::Subject::if_room, base::specs::Buffers::starts_with))]
+#[tactic(auto, using(crate::proofs::Laws::label_from), unfolding(crate::specs::Subject::if_room, base::specs::Buffers::starts_with))]
 pub fn write_label(kind: u8, number: u32, scratch: &mut [u8]) -> usize
     ensures length { result ≡ length (if_room scratch.old (labelled kind number)) }
     ensures scratch { scratch.new ≡ starts_with (if_room scratch.old (labelled kind number)) scratch.old }
@@ -49,20 +48,20 @@ pub fn write_label(kind: u8, number: u32, scratch: &mut [u8]) -> usize
     if scratch.len() < LEAST_SCRATCH {
         return 0;
     }
-    let label = label_of(kind, number);
+    let label = label_of(subject_from(kind, number));
     scratch[..label.len()].copy_from_slice(&label);
     label.len()
 }
 
 // And read from there.
 #[tactic(auto, unfolding(crate::specs::Subject::if_room))]
-fn read_label(scratch: &[u8], kind: u8, number: u32) -> &[u8]
-    ensures { result.now ≡ take (length (if_room scratch.now (labelled kind number))) scratch.now }
+fn read_label(scratch: &[u8], subject: Subject) -> &[u8]
+    ensures { result.now ≡ take (length (if_room scratch.now (label subject))) scratch.now }
 {
     if scratch.len() < LEAST_SCRATCH {
         return &[];
     }
-    &scratch[..label_of(kind, number).len()]
+    &scratch[..label_of(subject).len()]
 }
 
 // ---- the two calls
@@ -80,7 +79,7 @@ pub fn accepted_subject<'a>(
 {
     match subject_from(kind, number) {
         Subject::Text(t) => image.text(t as usize),
-        _ => read_label(scratch, kind, number),
+        subject => read_label(scratch, subject),
     }
 }
 
