@@ -5,6 +5,7 @@ ghost use Rattle.std.specs.Prelude.{◌≡◌, ◌+◌, ◌<◌};
 ghost use Rattle.numbers.specs.Bytes.{word_range};
 ghost use Rattle.batch.specs.Output.{count_of, size_of};
 
+use numbers::LittleEndian;
 use oce_diag::{Counted, DIAGNOSTIC_SIZE};
 use oce_model::{LEADING_BYTES, Refusal};
 use outcome::Answer;
@@ -38,29 +39,21 @@ pub const REFUSAL_PLACE: usize = LEADING_BYTES;
 
 pub const OFFSET_PLACE: usize = REFUSAL_PLACE + 1;
 
-pub const ERRORS_PLACE: usize = OFFSET_PLACE + 4;
+pub const ERRORS_PLACE: usize = OFFSET_PLACE + u32::SIZE;
 
-pub const WARNINGS_PLACE: usize = ERRORS_PLACE + 4;
+pub const WARNINGS_PLACE: usize = ERRORS_PLACE + u32::SIZE;
 
-// Where there is no refusal, and where nothing is counted.
+// Where there is no refusal.
 pub const NO_REFUSAL: Refusal = Refusal {
     number: 0,
     offset: 0,
-};
-
-pub const NONE_COUNTED: Counted = Counted {
-    errors: 0,
-    warnings: 0,
 };
 
 // How many diagnostics the answer for an image counts.
 pub fn count_of(answer: Answer) -> usize
     ensures { (result ≡ count_of answer) × (result < word_range + word_range) }
 {
-    match answer {
-        Ok(counted) => counted.total(),
-        Err(_) => 0,
-    }
+    answer.map_or(0, Counted::total)
 }
 
 // The bytes of the field and the report of an image, by its answer.

@@ -11,10 +11,11 @@ ghost use Rattle.batch_check.specs.Kept.{Measures, Kept};
 ghost use Rattle.batch_check.specs.Called.{Measured, Called};
 
 use base::copy_at;
-use batch::{BatchAnswer, BatchRefusal, MOST_IMAGES, NONE_COUNTED, SUMMARY_SIZE, size_of};
+use batch::{BatchAnswer, BatchRefusal, MOST_IMAGES, SUMMARY_SIZE, size_of};
 use batch_framing::{find_fault, image_in};
 use batch_image::{summarize_at, write_image};
 use image_framing::Fields;
+use oce_diag::Counted;
 use oce_model::Field;
 use outcome::Answer;
 
@@ -95,7 +96,7 @@ fn check_images(batch: &[u8], output: &mut [u8]) -> BatchAnswer
     requires { Clean batch.now }
     ensures { Called batch.now output.old result output.new }
 {
-    let mut kept = [Ok(NONE_COUNTED); MOST_IMAGES];
+    let mut kept = [Ok(Counted::default()); MOST_IMAGES];
     let mut early = [0u8; EARLY];
     let needed = measure(batch, &mut kept, &mut early);
     if output.len() < needed {

@@ -9,7 +9,7 @@ ghost use Rattle.batch.specs.Output.{summary_size, summary_of, summary_field, su
 ghost use Rattle.batch_image.specs.Summarized.{Summed, Summarized, Placed};
 
 use base::copy_at;
-use batch::{NO_REFUSAL, NONE_COUNTED, SUMMARY_LENGTH, SUMMARY_SIZE, SUMMARY_TAG, count_of};
+use batch::{NO_REFUSAL, SUMMARY_LENGTH, SUMMARY_SIZE, SUMMARY_TAG, count_of};
 use image_records::{Image, Tables};
 use numbers::BYTE_RANGE_U32;
 use oce_diag::Counted;
@@ -94,7 +94,7 @@ fn encode_answer(answer: Answer) -> [u8; SUMMARY_SIZE]
 {
     match answer {
         Ok(counted) => encode(NO_REFUSAL, counted),
-        Err(refusal) => encode(refusal, NONE_COUNTED),
+        Err(refusal) => encode(refusal, Counted::default()),
     }
 }
 
