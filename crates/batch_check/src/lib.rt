@@ -67,7 +67,7 @@ fn write_part(batch: &[u8], f: Field, answer: Answer, output: &mut [u8], o: usiz
 }
 
 // Writes the whole output.
-fn write_all(batch: &[u8], kept: &[Answer], output: &mut [u8])
+fn write_parts(batch: &[u8], kept: &[Answer], output: &mut [u8])
     requires { Clean batch.now × Kept batch.now kept.now × (bytes_needed batch.now ≤ length output.old) }
     ensures { output.new ≡ starts_with (batch_output batch.now) output.old }
 {
@@ -88,7 +88,7 @@ fn write_output(batch: &[u8], kept: &[Answer], early: &[u8], needed: usize, outp
         copy_at(output, 0, &early[0..needed]);
         return;
     }
-    write_all(batch, kept, output);
+    write_parts(batch, kept, output);
 }
 
 // A batch without a field at fault: refusal 12, or its output.

@@ -15,24 +15,24 @@ use batch_check::check_batch;
 use batch_framing::image_in;
 use image_framing::Fields;
 use oce_diag::DIAGNOSTIC_SIZE;
-use oce_model::Field;
+use oce_model::{Field, LONGEST_IMAGE};
 use outcome::Answer;
 use print_check::{print_report, read_from};
 use printed_batch::{answer_in, image_lines, refusal_line};
 use std::io;
 use std::io::{Error, ErrorKind, Read, Write};
 
-// An output that is printed is shorter than this, so that each of its counts has room in four bytes.
-const LONG_OUTPUT: usize = 4294967296;
+// An output that is printed has no more bytes, so that each of its counts has room in four.
+const LONGEST_OUTPUT: usize = u32::MAX as usize;
 
 // A batch that is read has no more bytes: sixty-four images of nearly full size.
-pub const LONGEST_BATCH: usize = 4194304;
+pub const LONGEST_BATCH: usize = 64 * (LONGEST_IMAGE + 1);
 
 // One more, to notice a batch that is longer.
 const READ_BATCH: usize = LONGEST_BATCH + 1;
 
-// The bytes that are lent for the output of a batch that is read.
-const READ_OUTPUT: usize = 2097152;
+// The bytes that are lent for the output of a batch that is read: half as many.
+const READ_OUTPUT: usize = LONGEST_BATCH / 2;
 
 // ---- one image
 
@@ -69,7 +69,7 @@ fn print_images<W: Write>(to: &mut W, batch: &[u8], output: &[u8], n: usize) -> 
     requires { Left batch.now output.now n }
     ensures { OnOk result (Appends (W.contents to.old) (W.contents to.new) (image_texts 0 (images batch.now))) }
 {
-    if LONG_OUTPUT <= n {
+    if LONGEST_OUTPUT < n {
         return Err(Error::from(ErrorKind::FileTooLarge));
     }
     let mut o = 0;

@@ -1,8 +1,8 @@
--- `batch_check::write_all` meets its contract: what is left, written from o on, makes the whole output.
+-- `batch_check::write_parts` meets its contract: what is left, written from o on, makes the whole output.
 use Rattle.std.proofs.Common.{rules, arith}
 use Rattle.batch_framing.proofs.Passes.{ahead-at}
 use Rattle.batch_check.proofs.Passes.{writing_start, writing-kept, writing-offset, writing-entry, writing-room, writing-turn, writing-end}
-use Rattle.batch_check.proofs.write_all.Goals as goal
+use Rattle.batch_check.proofs.write_parts.Goals as goal
 
 pub loop-f-init : goal.loop-f-init
 loop-f-init c = search (writing_start, rules)

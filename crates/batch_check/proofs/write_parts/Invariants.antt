@@ -1,6 +1,6 @@
--- `batch_check::write_all` meets its contract: what is left, written from o on, makes the whole output.
+-- `batch_check::write_parts` meets its contract: what is left, written from o on, makes the whole output.
 use Rattle.batch_check.proofs.Passes.{Writing}
-use Rattle.batch_check.proofs.write_all.Given as goal
+use Rattle.batch_check.proofs.write_parts.Given as goal
 
 abbrev pub invariant-loop-f : goal.invariant-loop-f
 invariant-loop-f l = Writing l.batch l.kept l.initial.output l.f-iterator l.o l.output
