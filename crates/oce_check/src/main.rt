@@ -45,14 +45,17 @@ After --batch a line 'image I', I from 0, stands before each image's lines; a re
 
 // ---- what is said; that it can't be written stops nothing
 
+// Writes to standard output.
 fn print(rt: &HostRuntime, text: &[u8]) {
     let _ = rt.stdout().write_all(text);
 }
 
+// A line on standard error that names the program.
 fn complain<D: fmt::Display + Drop>(rt: &HostRuntime, text: D) {
     let _ = writeln!(rt.stderr(), "oce_check: {text}");
 }
 
+// A line on standard error: what failed, and the system's words for why.
 fn complain_of(rt: &HostRuntime, what: &[u8], why: Error) {
     let _ = fail(&mut rt.stderr(), what, why);
 }
@@ -66,21 +69,21 @@ fn arg_count(rt: &HostRuntime) -> usize {
         .unwrap_or(MOST_ARGS)
 }
 
-// Argument i, read to a buffer; says so if it is too long.
-fn argument<'a>(rt: &HostRuntime, i: usize, name: &'a mut [u8]) -> Option<&'a [u8]> {
-    match rt.arg(i, name) {
-        Ok(n) => Some(&name[..n]),
-        Err(_) => {
-            complain(
-                rt,
-                if i == FIRST {
-                    "the first argument is too long"
-                } else {
-                    "the second argument is too long"
-                },
-            );
-            None
-        }
+// Goes on with argument i; says so if it is too long.
+fn with_argument<F: FnOnce(&[u8])>(rt: &HostRuntime, i: usize, next: F)
+    requires { F.IsAlwaysCallable next }
+{
+    let mut name = [0u8; LONGEST_NAME];
+    match rt.arg(i, &mut name) {
+        Ok(n) => next(&name[..n]),
+        Err(_) => complain(
+            rt,
+            if i == FIRST {
+                "the first argument is too long"
+            } else {
+                "the second argument is too long"
+            },
+        ),
     }
 }
 
@@ -99,12 +102,11 @@ fn write_filled(rt: &HostRuntime, name: &[u8], filled: &[u8]) {
     }
 }
 
-fn write_filled_as(rt: &HostRuntime, i: usize, filled: &[u8]) {
-    let mut name = [0u8; LONGEST_NAME];
-    match argument(rt, i, &mut name) {
-        Some(b"-") => print(rt, filled),
-        Some(name) => write_filled(rt, name, filled),
-        None => {}
+// The same, but for - to standard output.
+fn write_filled_as(rt: &HostRuntime, name: &[u8], filled: &[u8]) {
+    match name {
+        b"-" => print(rt, filled),
+        _ => write_filled(rt, name, filled),
     }
 }
 
@@ -119,17 +121,21 @@ fn check_image(rt: &HostRuntime, image: &[u8], i: usize) {
         return;
     }
     match outcome.answer {
-        Ok(_) => write_filled_as(rt, i, part_of(&filled, 0, image.len())),
+        Ok(_) => with_argument(rt, i, |name| {
+            write_filled_as(rt, name, part_of(&filled, 0, image.len()));
+        }),
         Err(_) => complain(rt, "a refused image gives no filled image"),
     }
 }
 
+// Checks the image on standard input.
 fn check_stdin(rt: &HostRuntime) {
     let mut bytes = [0u8; READ];
     let n = read_full(&mut rt.stdin(), &mut bytes).length;
     check_image(rt, &bytes[..n], FIRST);
 }
 
+// Checks the image in a file.
 fn check_file(rt: &HostRuntime, name: &[u8]) {
     let mut bytes = [0u8; READ];
     if let Ok(n) = read_image(rt, &mut rt.stderr(), name, &mut bytes) {
@@ -137,6 +143,7 @@ fn check_file(rt: &HostRuntime, name: &[u8]) {
     }
 }
 
+// Lists the fields of the image in a file.
 fn list_file(rt: &HostRuntime, name: &[u8]) {
     let mut bytes = [0u8; READ];
     let Ok(n) = read_image(rt, &mut rt.stderr(), name, &mut bytes) else {
@@ -156,10 +163,7 @@ fn list_named(rt: &HostRuntime, count: usize) {
         );
         return;
     }
-    let mut name = [0u8; LONGEST_NAME];
-    if let Some(name) = argument(rt, SECOND, &mut name) {
-        list_file(rt, name);
-    }
+    with_argument(rt, SECOND, |name| list_file(rt, name));
 }
 
 // ---- many images
@@ -176,6 +180,7 @@ fn complain_of_batch(rt: &HostRuntime, why: Unprinted, name: &[u8]) {
     }
 }
 
+// Checks the batch in a file.
 fn check_batch_file(rt: &HostRuntime, name: &[u8]) {
     match open_read(rt, name) {
         Ok(mut file) => {
@@ -195,14 +200,12 @@ fn check_images(rt: &HostRuntime, count: usize) {
         }
         return;
     }
-    let mut name = [0u8; LONGEST_NAME];
-    if let Some(name) = argument(rt, SECOND, &mut name) {
-        check_batch_file(rt, name);
-    }
+    with_argument(rt, SECOND, |name| check_batch_file(rt, name));
 }
 
 // ---- what the first argument asks for
 
+// An option, or the name of an image's file.
 fn run(rt: &HostRuntime, first: &[u8], count: usize) {
     match first {
         b"--help" => print(rt, HELP),
@@ -225,8 +228,5 @@ fn main(rt: HostRuntime) {
         );
         return;
     }
-    let mut name = [0u8; LONGEST_NAME];
-    if let Some(name) = argument(&rt, FIRST, &mut name) {
-        run(&rt, name, count);
-    }
+    with_argument(&rt, FIRST, |first| run(&rt, first, count));
 }
