@@ -16,7 +16,7 @@ use Rattle.oce_model.specs.Format.{leading_bytes, longest_image, block_ports, po
 use Rattle.oce_model.specs.Attributes.{attrs_at}
 use Rattle.oce_model.specs.Image.{field_at, fields, of_tag, start_of}
 use Rattle.oce_model.specs.declared.Field.{Field}
-use Rattle.oce_model.specs.Model.{dir_of, kind_of, kind_number, model_of, ids_at, input_count_at, output_count_at, no_block, block, block_at, connector, connector_at, connection, connection_at, external_input_at, boundary_input, boundary_input_at, boundary_output, boundary_output_at, block_count, connector_count, connection_count, boundary_input_count, boundary_output_count}
+use Rattle.oce_model.specs.Model.{dir_of, kind_of, kind_number, dir_number, model_of, ids_at, input_count_at, output_count_at, no_block, block, block_at, connector, connector_at, connection, connection_at, external_input_at, boundary_input, boundary_input_at, boundary_output, boundary_output_at, block_count, connector_count, connection_count, boundary_input_count, boundary_output_count}
 use Rattle.oce_model.specs.Refusals.{bad_length, bad_block_length}
 use Rattle.oce_model.specs.declared.ConnectorFront.{ConnectorFront}
 use Rattle.oce_model.specs.declared.Dir.{Dir}
@@ -25,7 +25,7 @@ use Rattle.oce_model.specs.declared.Dir.TheVariants.{In, Out}
 use Rattle.oce_model.proofs.Accepted.{Accepted, accepted, fixed-length, connectors-length, connections-length, inputs-length, outputs-length}
 use Rattle.oce_model.proofs.Fields.{none-mem, nth, nth-mem, nth-tag}
 use Rattle.oce_model.proofs.Places.{field-end}
-use Rattle.oce_model.proofs.Records.{connector-type, kind-number, nth-at, connector-at, connection-at, external-at, input-at, output-at}
+use Rattle.oce_model.proofs.Records.{connector-type, connector-dir, kind-number, nth-at, connector-at, connection-at, external-at, input-at, output-at}
 use Rattle.image_accept.specs.Layout.{Laid, section_of, layout_of, offsets_of}
 use Rattle.image_accept.specs.declared.Layout.{Layout}
 use Rattle.image_accept.proofs.Rooms.{accepted-room}
@@ -149,6 +149,10 @@ module _ {s : List ℕ} {l : Layout} (h : Laid s l) where
       pub connector-typed : {c : ConnectorFront} → c ≡ connector_read (connector (model_of s) i) → kind_number c.value_type ≡ (connector (model_of s) i).value_type
       unfolding connector_read
       connector-typed e = rw e (kind-number _ (connector-type s acc i (rw (sym connectors-counted) k)))
+
+      pub connector-turned : {c : ConnectorFront} → c ≡ connector_read (connector (model_of s) i) → dir_number c.dir ≡ (connector (model_of s) i).dir
+      unfolding connector_read
+      connector-turned e = rw e (connector-dir s acc i (rw (sym connectors-counted) k))
 
       pub connector-has : {at : ℕ} → at ≡ l.connectors.start + connector_size * i → attrs_at s (at + connector_attrs) ≡ (connector (model_of s) i).attrs
       unfolding connector_at

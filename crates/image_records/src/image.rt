@@ -3,7 +3,7 @@
 ghost use Rattle.std.specs.Prelude.{◌≡◌, ◌<◌, ◌≤◌, ℕ, List, length, get_or};
 ghost use Rattle.std.specs.Prelude.{None};
 ghost use Rattle.oce_model.specs.Format.{text_tag, block_tag, most_blocks, most_connectors, most_connections, most_external_inputs, most_boundary_inputs, most_boundary_outputs};
-ghost use Rattle.oce_model.specs.Model.{kind_number, model_of, block_count, connector_count, connection_count, boundary_input_count, boundary_output_count, block, connector, connection, boundary_input, boundary_output, text};
+ghost use Rattle.oce_model.specs.Model.{dir_number, kind_number, model_of, block_count, connector_count, connection_count, boundary_input_count, boundary_output_count, block, connector, connection, boundary_input, boundary_output, text};
 ghost use Rattle.base.specs.Lists.{same};
 ghost use Rattle.oce_model.specs.Texts.{order};
 ghost use Rattle.oce_model.specs.Refusals.{refusal};
@@ -166,7 +166,7 @@ impl<'a, 't> Image<'a, 't> {
     // Connector i, what stands in front of its attributes.
     pub fn connector(&self, i: ConnectorId) -> ConnectorFront
         requires { i.0 < connector_count (model_of self.now) }
-        ensures { (result ≡ connector_read (connector (model_of self.now) i.0)) × (kind_number result.value_type ≡ (connector (model_of self.now) i.0).value_type) }
+        ensures { (result ≡ connector_read (connector (model_of self.now) i.0)) × (dir_number result.dir ≡ (connector (model_of self.now) i.0).dir) × (kind_number result.value_type ≡ (connector (model_of self.now) i.0).value_type) }
     {
         connector_at(
             self.bytes,

@@ -13,11 +13,11 @@ use lib.ListN.{length, get_or, length-map}
 use lib.Dec.{leb, eqb, ltb}
 use Rattle.base.specs.Lists.{keep}
 use Rattle.numbers.specs.Bytes.{byte}
-use Rattle.oce_model.specs.Format.{head_tag, enum_kind, fixed_length, leading_bytes, text_tag, block_tag, connector_tag, connection_tag, external_input_tag, boundary_input_tag, boundary_output_tag, connector_size, connection_size, external_input_size, boundary_input_size, boundary_output_size}
+use Rattle.oce_model.specs.Format.{head_tag, enum_kind, dir_in, dir_out, fixed_length, leading_bytes, text_tag, block_tag, connector_tag, connection_tag, external_input_tag, boundary_input_tag, boundary_output_tag, connector_size, connection_size, external_input_size, boundary_input_size, boundary_output_size}
 use Rattle.oce_model.specs.declared.Dir.TheVariants.{In, Out}
 use Rattle.oce_model.specs.declared.Field.{Field}
 use Rattle.oce_model.specs.Image.{field_at, field_end, fields, fields_from, first, of_tag, or_end, ord_of, start_of}
-use Rattle.oce_model.specs.Model.{Connector, dir_of, kind_of, kind_number, inwards, is_in, boundary_input, boundary_input_at, boundary_input_count, boundary_output, boundary_output_at, boundary_output_count, connection, connection_at, connection_count, connector, connector_at, connector_count, external_input_at, model_of}
+use Rattle.oce_model.specs.Model.{Connector, dir_of, dir_number, kind_of, kind_number, inwards, is_in, boundary_input, boundary_input_at, boundary_input_count, boundary_output, boundary_output_at, boundary_output_count, connection, connection_at, connection_count, connector, connector_at, connector_count, external_input_at, model_of}
 use Rattle.oce_model.specs.Refusals.{attrs_offset, bad_attrs, bad_connector, bad_contents, bad_head, bad_length, bad_tag, on_attrs, tag_is_bad}
 use Rattle.base.proofs.Lists.{or_parts}
 use Rattle.base.proofs.Members.{get_or-map}
@@ -166,21 +166,34 @@ inwards_is c = by (is_in c)
 
 -- ---- a type as code has it
 
--- refusal 6 lets no other type pass
-type-ok : (s : List ℕ) (f : Field) → f.tag ≡ connector_tag → bad_contents s f ≡ false → (connector_at s f.at).value_type ≤ enum_kind
+-- refusal 6 lets no other direction and no other type pass
+front-ok : (s : List ℕ) (f : Field) → f.tag ≡ connector_tag → bad_contents s f ≡ false → ((connector_at s f.at).dir ≤ dir_out) × ((connector_at s f.at).value_type ≤ enum_kind)
 unfolding bad_contents bad_connector
-type-ok s f e h =
+front-ok s f e h =
     let a = eqb f.tag head_tag && bad_head s f.at in
     let d = connector_at s f.at in
     let c = ltb 1 d.dir || ltb 4 d.value_type || (not (eqb d.value_type 4) && not (eqb d.enum_class 0)) in
     let g = (or_parts a (eqb f.tag connector_tag && c) (or_parts (a || (eqb f.tag connector_tag && c)) (on_attrs s bad_attrs (attrs_offset f)) h).0).1 in
     let k : c ≡ false = rw e at g in
-    ltb-false 4 d.value_type (or_parts (ltb 1 d.dir) _ (or_parts _ _ k).0).1
+    let p = or_parts (ltb 1 d.dir) _ (or_parts _ _ k).0 in
+    (ltb-false 1 d.dir p.0, ltb-false 4 d.value_type p.1)
+
+connector-front : (s : List ℕ) → Accepted s → (i : ℕ) → i < connector_count (model_of s) → ((connector (model_of s) i).dir ≤ dir_out) × ((connector (model_of s) i).value_type ≤ enum_kind)
+connector-front s acc i l =
+    let k = rw (connectors-length s) at l in
+    rw (connector-is s i l) (front-ok s (nth connector_tag s i) (nth-tag connector_tag s i k) (none-mem (bad_contents s) (fields s) acc.contents (nth connector_tag s i) (nth-mem connector_tag s i k)))
 
 pub connector-type : (s : List ℕ) → Accepted s → (i : ℕ) → i < connector_count (model_of s) → (connector (model_of s) i).value_type ≤ enum_kind
-connector-type s acc i l =
-    let k = rw (connectors-length s) at l in
-    rw (connector-is s i l) (type-ok s (nth connector_tag s i) (nth-tag connector_tag s i k) (none-mem (bad_contents s) (fields s) acc.contents (nth connector_tag s i) (nth-mem connector_tag s i k)))
+connector-type s acc i l = (connector-front s acc i l).1
+
+pub connector-dir : (s : List ℕ) → Accepted s → (i : ℕ) → i < connector_count (model_of s) → dir_number (dir_of (connector (model_of s) i)) ≡ (connector (model_of s) i).dir
+unfolding dir_of is_in
+connector-dir s acc i l = dir-number (connector (model_of s) i).dir (connector-front s acc i l).0
+  where
+    dir-number : (n : ℕ) → n ≤ dir_out → dir_number (cond (eqb n dir_in) In Out) ≡ n
+    dir-number zero h = refl
+    dir-number (suc zero) h = refl
+    dir-number (suc (suc n)) h = absurd (omega arith)
 
 pub kind-number : (n : ℕ) → n ≤ enum_kind → kind_number (kind_of n) ≡ n
 unfolding kind_of

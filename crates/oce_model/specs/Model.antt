@@ -2,7 +2,7 @@
 use Rattle.std.specs.Prelude.{ℕ, ◌+◌, ◌*◌, Bool, true, false, cond, List, [], map, length, get_or, eqb, ltb, ℤ}
 use Rattle.base.specs.Lists.{tab}
 use Rattle.numbers.specs.Bytes.{byte, le16, le32, le64, signed64}
-use Rattle.oce_model.specs.Format.{text_tag, block_tag, connector_tag, connection_tag, external_input_tag, boundary_input_tag, boundary_output_tag, port_length, block_ports, real_kind, integer_kind, boolean_kind, string_kind, enum_kind, dir_in, connector_attrs, boundary_input_attrs, boundary_output_attrs, head_min_at, head_max_at, block_id_at, block_instance_at, block_inputs_at, block_outputs_at, connector_id_at, connector_block_at, connector_dir_at, connector_type_at, connector_class_at, connector_iri_at, connection_from_at, connection_to_at, external_input_id_at, boundary_input_iri_at, boundary_output_iri_at, boundary_output_source_at}
+use Rattle.oce_model.specs.Format.{text_tag, block_tag, connector_tag, connection_tag, external_input_tag, boundary_input_tag, boundary_output_tag, port_length, block_ports, real_kind, integer_kind, boolean_kind, string_kind, enum_kind, dir_in, dir_out, connector_attrs, boundary_input_attrs, boundary_output_attrs, head_min_at, head_max_at, block_id_at, block_instance_at, block_inputs_at, block_outputs_at, connector_id_at, connector_block_at, connector_dir_at, connector_type_at, connector_class_at, connector_iri_at, connection_from_at, connection_to_at, external_input_id_at, boundary_input_iri_at, boundary_output_iri_at, boundary_output_source_at}
 use Rattle.oce_model.specs.Attributes.{Attrs, no_attrs, attrs_at}
 use Rattle.oce_model.specs.Image.{fields, of_tag}
 use Rattle.oce_model.specs.Texts.{text_of}
@@ -196,6 +196,11 @@ is_in c = eqb c.dir dir_in
 -- its direction, as code has it
 unfoldable pub dir_of : Connector → Dir
 dir_of c = cond (is_in c) In Out
+
+-- its number
+abbrev pub dir_number : Dir → ℕ
+dir_number In = dir_in
+dir_number Out = dir_out
 
 -- it is In
 abbrev pub inwards : Dir → Bool

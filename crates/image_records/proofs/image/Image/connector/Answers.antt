@@ -1,4 +1,4 @@
-use Rattle.image_records.proofs.Laws.{connector-near, connector-inside, connector-read, connector-typed}
+use Rattle.image_records.proofs.Laws.{connector-near, connector-inside, connector-read, connector-turned, connector-typed}
 use Rattle.image_records.proofs.Images.{a-connector}
 use Rattle.image_records.proofs.image.Image.connector.Goals as goal
 
@@ -12,4 +12,4 @@ pub returns : goal.returns
 returns c =
     let k = a-connector c.self.view_is c.self.invariant.0 c.requires in
     let e = connector-read c.self.invariant.0 k c.record_at.ensures.0 c.connector_at.ensures in
-    rw (← c.self.view_is) (e, connector-typed c.self.invariant.0 k e)
+    rw (← c.self.view_is) (e, connector-turned c.self.invariant.0 k e, connector-typed c.self.invariant.0 k e)
