@@ -81,6 +81,7 @@ fn subject_agrees(file: &[u8], at: usize, image: &[u8], x: Subject) -> bool
     same_bytes(ours, part_of(file, at + TEXT_AT, len))
 }
 
+// All that is told of it.
 #[tactic(auto, unfolding(crate::specs::Diagnostics::agrees))]
 fn diagnostic_agrees(file: &[u8], at: usize, image: &[u8], d: Diagnostic) -> bool
     requires { at ≤ length file.now }

@@ -1,2 +1,2 @@
-// Demand 3: values that move along connections. No code.
+// Values that move along connections. No code.
 #![tactic(auto)]

@@ -21,7 +21,7 @@ pub struct OceAnswer {
     pub refusal: u32,
     // the refusal's offset, or the bytes needed for 9 and 10; 0 where the image is checked
     pub at: u32,
-    // 'the number of errors and of warnings'; both 0 for a refusal
+    // the number of errors, and of warnings; both 0 for a refusal
     pub errors: u32,
     pub warnings: u32,
 }

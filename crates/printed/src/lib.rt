@@ -24,6 +24,7 @@ pub const LONGEST_FIRST_LINE: usize = 38;
 
 // ---- a diagnostic's fields, each put behind out's bytes
 
+// A severity's name.
 #[tactic(auto, unfolding(crate::specs::Printed::severity_name))]
 fn severity_name(severity: Severity) -> &'static [u8]
     ensures name { result.now ≡ severity_name severity }
@@ -35,6 +36,7 @@ fn severity_name(severity: Severity) -> &'static [u8]
     }
 }
 
+// A code's name.
 #[tactic(auto, unfolding(crate::specs::Printed::code_name))]
 fn code_name(code: DiagCode) -> &'static [u8]
     ensures name { result.now ≡ code_name code }
@@ -52,6 +54,7 @@ fn code_name(code: DiagCode) -> &'static [u8]
     }
 }
 
+// Severity and code, a space between.
 fn put_names<const CAP: usize>(out: &mut ArrayVec<u8, CAP>, severity: Severity, code: DiagCode)
     requires { array_vec_len out.old + longest_names ≤ CAP }
     ensures items { out.new.items ≡ out.old.items ++ names severity code }
@@ -62,6 +65,7 @@ fn put_names<const CAP: usize>(out: &mut ArrayVec<u8, CAP>, severity: Severity, 
     put_bytes(out, code_name(code));
 }
 
+// Behind a space rule and detail, a dot between.
 fn put_rule<const CAP: usize>(out: &mut ArrayVec<u8, CAP>, rule: u8, detail: u8)
     requires { array_vec_len out.old + longest_rule ≤ CAP }
     ensures items { out.new.items ≡ out.old.items ++ rule_and_detail rule detail }
@@ -87,6 +91,7 @@ fn put_subject<const CAP: usize>(image: &Image, out: &mut ArrayVec<u8, CAP>, sub
     }
 }
 
+// Behind a space the subject, and the end of the line.
 fn put_end<const CAP: usize>(image: &Image, out: &mut ArrayVec<u8, CAP>, subject: Subject)
     requires { array_vec_len out.old + longest_end ≤ CAP }
     ensures { out.new.items ≡ out.old.items ++ line_end image.now subject }

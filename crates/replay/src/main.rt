@@ -36,6 +36,7 @@ struct Sum {
 }
 
 impl Sum {
+    // Both added up.
     fn plus(self, other: Sum) -> Sum {
         Sum {
             images: self.images.wrapping_add(other.images),
@@ -160,6 +161,7 @@ fn replay_records<P: Print>(to: &P, name: &[u8], file: &[u8]) -> Option<(usize, 
     Some((at, sum))
 }
 
+// The bytes of a file: its records, and a line that sums them up.
 fn replay_bytes<P: Print>(to: &P, name: &[u8], file: &[u8]) -> Sum {
     if !is_stored(file) {
         return fail(to, name, " isn't a file of stored answers of version 1");
@@ -177,6 +179,7 @@ fn replay_bytes<P: Print>(to: &P, name: &[u8], file: &[u8]) -> Sum {
     sum
 }
 
+// A file: its bytes, or why it can't be gone through.
 fn replay_file<R: Files + Print>(rt: &R, name: &[u8]) -> Sum {
     match open_read(rt, name) {
         Ok(mut from) => {
