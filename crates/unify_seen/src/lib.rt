@@ -9,7 +9,6 @@ ghost use Rattle.unify_seen.specs.Seen.{TakenIn, Sees, shows};
 use numbers::is_set;
 use oce_model::{Attrs, Kind};
 use unify::Detail;
-use unify_slots::Slots;
 
 // The marks of all Real members together, and those of all Integer members.
 #[derive(Clone, Copy, PartialEq, Eq, Debug)]
@@ -30,14 +29,13 @@ fn take_in(had: u8, wanted: Kind, a: &Attrs) -> u8
 }
 
 // What the members declare.
-pub fn seen_in(slots: &Slots, members: &[usize]) -> Seen
-    ensures { Sees slots.now.attrs members.now result.real result.integer (length members.now) }
+pub fn seen_in(slots: &[Attrs], members: &[usize]) -> Seen
+    ensures { Sees slots.now members.now result.real result.integer (length members.now) }
 {
-    let attrs = slots.attrs();
     let mut real = 0;
     let mut integer = 0;
     for j in members {
-        if let Some(a) = attrs.get(*j) {
+        if let Some(a) = slots.get(*j) {
             real = take_in(real, Kind::Real, a);
             integer = take_in(integer, Kind::Integer, a);
         }

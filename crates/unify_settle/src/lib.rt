@@ -6,22 +6,23 @@ ghost use Rattle.base.specs.Lists.{all};
 ghost use Rattle.oce_model.specs.Model.{model_of};
 ghost use Rattle.unify.specs.Slots.{slot, value, agree};
 ghost use Rattle.unify.specs.Unify.{declarations, conflict, put_members, fill};
-ghost use Rattle.unify_slots.specs.Slots.{with_attrs};
 ghost use Rattle.unify_settle.specs.Settle.{FirstOf, member_agrees, agreed};
 
+use image_records::Image;
+use oce_model::Attrs;
 use unify::Detail;
-use unify_slots::Slots;
+use unify_slots::{declared_at, put_at};
 
 // Not all that is declared for a detail agrees.
 #[derive(Clone, Copy, PartialEq, Eq, Debug)]
 pub struct Conflict;
 
 // The Rust's `AttrVal::same`: texts by bytes, ends by their 64 bits.
-fn agrees(slots: &Slots, detail: Detail, u: u64, v: u64) -> bool
-    ensures { result ≡ agree (model_of slots.now.image).texts detail u v }
+fn agrees(image: &Image, detail: Detail, u: u64, v: u64) -> bool
+    ensures { result ≡ agree (model_of image.now).texts detail u v }
 {
     if detail.is_text() {
-        slots.image().same_text(u as usize, v as usize)
+        image.same_text(u as usize, v as usize)
     } else {
         u == v
     }
@@ -35,11 +36,11 @@ struct First<'a> {
 }
 
 // The first value that the members declare for a detail, if any of them does.
-fn first_declared<'a>(slots: &Slots, members: &'a [usize], detail: Detail) -> Option<First<'a>>
-    ensures { FirstOf detail slots.now.attrs members.now result }
+fn first_declared<'a>(slots: &[Attrs], members: &'a [usize], detail: Detail) -> Option<First<'a>>
+    ensures { FirstOf detail slots.now members.now result }
 {
     for (i, j) in members.iter().enumerate() {
-        if let Some(value) = slots.declared(*j, detail) {
+        if let Some(value) = declared_at(slots, *j, detail) {
             return Some(First {
                 value,
                 rest: &members[i + 1..],
@@ -50,11 +51,11 @@ fn first_declared<'a>(slots: &Slots, members: &'a [usize], detail: Detail) -> Op
 }
 
 // What member j declares, if anything, agrees with v.
-fn member_agrees(slots: &Slots, j: usize, detail: Detail, v: u64) -> bool
-    ensures { result ≡ member_agrees (model_of slots.now.image).texts detail v (value detail (slot slots.now.attrs j)) }
+fn member_agrees(image: &Image, slots: &[Attrs], j: usize, detail: Detail, v: u64) -> bool
+    ensures { result ≡ member_agrees (model_of image.now).texts detail v (value detail (slot slots.now j)) }
 {
-    match slots.declared(j, detail) {
-        Some(u) => agrees(slots, detail, v, u),
+    match declared_at(slots, j, detail) {
+        Some(u) => agrees(image, detail, v, u),
         None => true,
     }
 }
@@ -62,21 +63,28 @@ fn member_agrees(slots: &Slots, j: usize, detail: Detail, v: u64) -> bool
 // All that the members declare agrees with v. Inlined: clusters have few members, so that a call for each detail costs
 // as much as its work.
 #[inline(always)]
-fn all_agree(slots: &Slots, members: &[usize], detail: Detail, v: u64) -> bool
-    ensures { result ≡ all (agree (model_of slots.now.image).texts detail v) (declarations detail slots.now.attrs members.now) }
+fn all_agree(image: &Image, slots: &[Attrs], members: &[usize], detail: Detail, v: u64) -> bool
+    ensures { result ≡ all (agree (model_of image.now).texts detail v) (declarations detail slots.now members.now) }
 {
-    members.iter().all(|j| member_agrees(slots, *j, detail, v))
+    members
+        .iter()
+        .all(|j| member_agrees(image, slots, *j, detail, v))
 }
 
 // The first value that the members declare for a detail, if all that they declare agrees with it.
 #[inline(always)]
-fn agreed(slots: &Slots, members: &[usize], detail: Detail) -> Result<Option<u64>, Conflict>
-    ensures { result ≡ agreed (model_of slots.now.image).texts detail (declarations detail slots.now.attrs members.now) }
+fn agreed(
+    image: &Image,
+    slots: &[Attrs],
+    members: &[usize],
+    detail: Detail,
+) -> Result<Option<u64>, Conflict>
+    ensures { result ≡ agreed (model_of image.now).texts detail (declarations detail slots.now members.now) }
 {
     match first_declared(slots, members, detail) {
         None => Ok(None),
         Some(first) => {
-            if all_agree(slots, first.rest, detail, first.value) {
+            if all_agree(image, slots, first.rest, detail, first.value) {
                 Ok(Some(first.value))
             } else {
                 Err(Conflict)
@@ -86,32 +94,33 @@ fn agreed(slots: &Slots, members: &[usize], detail: Detail) -> Result<Option<u64
 }
 
 // Each unset member takes v.
-fn put_members(slots: &mut Slots, members: &[usize], detail: Detail, v: u64)
-    ensures { slots.new ≡ with_attrs slots.old (put_members detail v members.now slots.old.attrs) }
+fn put_members(slots: &mut [Attrs], members: &[usize], detail: Detail, v: u64)
+    ensures { slots.new ≡ put_members detail v members.now slots.old }
 {
     for j in members {
-        slots.put(*j, detail, v);
+        put_at(slots, *j, detail, v);
     }
 }
 
 // The Rust's `decide_and_apply`: one detail over the members of a cluster, which are filled if they agree.
 pub fn decide_and_apply(
-    slots: &mut Slots,
+    image: &Image,
+    slots: &mut [Attrs],
     members: &[usize],
     detail: Detail,
 ) -> Result<(), Conflict>
-    ensures filled { slots.new ≡ with_attrs slots.old (fill (model_of slots.old.image).texts members.now detail slots.old.attrs) }
-    ensures told { is_err result ≡ conflict (model_of slots.old.image).texts detail (declarations detail slots.old.attrs members.now) }
+    ensures filled { slots.new ≡ fill (model_of image.now).texts members.now detail slots.old }
+    ensures told { is_err result ≡ conflict (model_of image.now).texts detail (declarations detail slots.old members.now) }
 {
-    if let Some(v) = agreed(slots, members, detail)? {
+    if let Some(v) = agreed(image, slots, members, detail)? {
         put_members(slots, members, detail, v);
     }
     Ok(())
 }
 
 // The members declare values for a detail that don't all agree: what `warn_display_unit_divergence` asks.
-pub fn diverges(slots: &Slots, members: &[usize], detail: Detail) -> bool
-    ensures { result ≡ conflict (model_of slots.now.image).texts detail (declarations detail slots.now.attrs members.now) }
+pub fn diverges(image: &Image, slots: &[Attrs], members: &[usize], detail: Detail) -> bool
+    ensures { result ≡ conflict (model_of image.now).texts detail (declarations detail slots.now members.now) }
 {
-    agreed(slots, members, detail).is_err()
+    agreed(image, slots, members, detail).is_err()
 }

@@ -22,7 +22,7 @@ use Rattle.unify.specs.Details.{kind_of, bit_of}
 use Rattle.unify.specs.Slots.{Slots, slots_of, slot, value, put}
 use Rattle.unify.specs.declared.Detail.{Detail}
 use Rattle.unify.proofs.Slots.{slot-connector, slot-out, slots_length}
-use Rattle.unify_slots.specs.Slots.{slot_count, SlotTable, with_attrs}
+use Rattle.unify_slots.specs.Slots.{slot_count}
 
 -- a bit's weight within a byte
 weigh : (p : ℕ) → p < 6 → 1 * 2 ^ p % 256 ≡ 2 ^ p
@@ -33,11 +33,6 @@ weigh (suc (suc (suc zero))) h = refl
 weigh (suc (suc (suc (suc zero)))) h = refl
 weigh (suc (suc (suc (suc (suc zero))))) h = refl
 weigh (suc (suc (suc (suc (suc (suc p)))))) h = absurd (omega arith)
-
--- ---- tables
-
-pub table-is : (t t' : SlotTable) {σ : Slots} → t'.attrs ≡ σ → t'.image ≡ t.image → t' ≡ with_attrs t σ
-table-is t t' e i = rw (← e, ← i)
 
 -- ---- no slot
 
@@ -97,21 +92,21 @@ marks-fit m p l h er e = record { fits = rw (weigh p h) (mark-fits 8 m p l (omeg
 
 -- ---- the loops that read them: the connectors', then the boundary outputs'
 
-module _ (m : Model) (l : Slots) (j : ℕ) (v : take j l ≡ take j (slots_of m)) (e : length l ≡ slot_count m) where
-  load-next : {a : Attrs} → j < length l → a ≡ slot (slots_of m) j → take (j + 1) (set l j a) ≡ take (j + 1) (slots_of m)
+module _ (m : Model) (l : Slots) (j : ℕ) (v : take j l ≡ take j (slots_of m)) (e : slot_count m ≤ length l) where
+  load-next : {a : Attrs} → j < slot_count m → a ≡ slot (slots_of m) j → take (j + 1) (set l j a) ≡ take (j + 1) (slots_of m)
   unfolding slot
   load-next {a} h ea =
       let h' : j < length (slots_of m) = omega (arith, slots_length m) in
-      rw (add-one j, take-suc-set l j a h, take-suc (slots_of m) j no_attrs h', v, ea)
+      rw (add-one j, take-suc-set l j a (omega arith), take-suc (slots_of m) j no_attrs h', v, ea)
 
   pub load-connector : {a : Attrs} → a ≡ (connector m j).attrs → j < connector_count m → take (j + 1) (set l j a) ≡ take (j + 1) (slots_of m)
   load-connector ea h = load-next (omega arith) (ea ∙ sym (slot-connector m j h))
 
-  pub load-done : length l ≤ j → l ≡ slots_of m
-  load-done h = sym (take_all j l h) ∙ v ∙ take_all j (slots_of m) (omega (arith, slots_length m))
+  pub load-done : slot_count m ≡ j → take (slot_count m) l ≡ slots_of m
+  load-done h = rw h (v ∙ take_all j (slots_of m) (omega (arith, slots_length m)))
 
 -- n are the connectors
-pub load-output : (m : Model) (l : Slots) (i : ℕ) {n : ℕ} {a : Attrs} → n ≡ connector_count m → take (n + i) l ≡ take (n + i) (slots_of m) → length l ≡ slot_count m
+pub load-output : (m : Model) (l : Slots) (i : ℕ) {n : ℕ} {a : Attrs} → n ≡ connector_count m → take (n + i) l ≡ take (n + i) (slots_of m) → slot_count m ≤ length l
     → a ≡ (boundary_output m i).attrs → i < boundary_output_count m → take (n + (i + 1)) (set l (n + i) a) ≡ take (n + (i + 1)) (slots_of m)
 load-output m l i {n} {a} en v e ea h =
     let q : n + (i + 1) ≡ (n + i) + 1 = omega arith in

@@ -1,5 +1,4 @@
 -- `unify_seen::seen_in` meets its contract: a member that is a slot, or none.
-use Rattle.std.proofs.Common.{◌≡◌, length, arith}
 use Rattle.oce_model.specs.Attributes.{no_attrs}
 use Rattle.unify.specs.Slots.{slot}
 use Rattle.unify_seen.proofs.Laws.{sees-turn, sees-none}
@@ -17,6 +16,3 @@ loop-j-preserved c =
           rw (w.real-is, w.integer-is) (sees-turn v (rw e at w.take_in-real.ensures) (rw e at w.take_in-integer.ensures) h)
       | in_default w ↦ rw (w.real-is, w.integer-is) (sees-none v w.in_default.ensures.lookup.3 h)
     ]
-
-pub returns : goal.returns
-returns c = let n : c.loop-j.j-index ≡ length c.args.members.now = omega arith in rw (← c.attrs-attrs.ensures.is, ← n) c.loop-j.invariant

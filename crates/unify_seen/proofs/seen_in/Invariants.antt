@@ -3,4 +3,4 @@ use Rattle.unify_seen.specs.Seen.{Sees}
 use Rattle.unify_seen.proofs.seen_in.Given as goal
 
 abbrev pub invariant-loop-j : goal.invariant-loop-j
-invariant-loop-j l = Sees l.attrs l.members l.real l.integer l.j-index
+invariant-loop-j l = Sees l.slots l.members l.real l.integer l.j-index

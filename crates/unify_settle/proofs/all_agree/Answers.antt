@@ -10,8 +10,8 @@ use Rattle.unify_settle.proofs.all_agree.Goals as goal
 
 pub returns : goal.returns
 returns c =
-    let t = c.args.slots.now in
-    let ts = (model_of c.args.slots.now.image).texts in
+    let σ = c.args.slots.now in
+    let ts = (model_of c.args.image.now).texts in
     let d = c.args.detail in
-    all_from_yields_List (λ j. member_agrees ts d c.args.v (value d (slot t.attrs j))) _ _ _ c.all.ensures.ran (YieldsList-from_slice c.args.members.now cc) (λ x b q k. search (rules, tests))
-    ∙ members-agree ts d c.args.v t.attrs c.args.members.now
+    all_from_yields_List (λ j. member_agrees ts d c.args.v (value d (slot σ j))) _ _ _ c.all.ensures.ran (YieldsList-from_slice c.args.members.now cc) (λ x b q k. search (rules, tests))
+    ∙ members-agree ts d c.args.v σ c.args.members.now

@@ -5,4 +5,4 @@ use Rattle.unify_settle.proofs.Laws.{told-agreed}
 use Rattle.unify_settle.proofs.diverges.Goals as goal
 
 pub returns : goal.returns
-returns c = c.is_err.ensures.value ∙ told-agreed (model_of c.args.slots.now.image).texts c.args.detail c.args.members.now c.args.slots.now.attrs c.agreed.ensures
+returns c = c.is_err.ensures.value ∙ told-agreed (model_of c.args.image.now).texts c.args.detail c.args.members.now c.args.slots.now c.agreed.ensures

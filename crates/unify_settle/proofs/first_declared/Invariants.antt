@@ -4,4 +4,4 @@ use Rattle.unify.specs.Unify.{declarations}
 use Rattle.unify_settle.proofs.first_declared.Given as goal
 
 abbrev pub invariant-loop-i : goal.invariant-loop-i
-invariant-loop-i l = declarations l.detail l.slots.attrs l.members ≡ declarations l.detail l.slots.attrs (drop l.i l.members)
+invariant-loop-i l = declarations l.detail l.slots l.members ≡ declarations l.detail l.slots (drop l.i l.members)
