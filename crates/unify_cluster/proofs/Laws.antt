@@ -8,7 +8,7 @@ use mathlib.Core.List.{List, [], ◌∷◌, ◌++◌, append-nil, append_assoc}
 use lib.Dec.{eqb}
 use lib.ListN.{length, get_or, drop, drop_of_length-le}
 use lib.Seq.{drop-cons}
-use Rattle.oce_model.specs.Model.{Model, model_of, connector, connector_count}
+use Rattle.oce_model.specs.Model.{Model, model_of, connector}
 use Rattle.oce_model.specs.declared.ConnectorFront.{ConnectorFront}
 use Rattle.image_records.specs.Records.{connector_read}
 use Rattle.oce_diag.specs.Diagnostics.{connector_subject, subject_of, error, warning}
@@ -27,8 +27,6 @@ use Rattle.unify.proofs.Undeclared.{fill-undeclared, faults-undeclared, display-
 use Rattle.unify.specs.Slots.{Slots}
 use Rattle.unify_seen.specs.Seen.{Sees, shows}
 use Rattle.unify_seen.proofs.Laws.{undeclared, nothing-shows}
-use Rattle.unify_slots.specs.Slots.{SlotTable, with_attrs}
-use Rattle.unify_slots.proofs.Laws.{table-is}
 use Rattle.unify_cluster.specs.Clusters.{unified_count, most_cluster_faults, Stands}
 use Rattle.unify_cluster.specs.declared.ClusterMembers.{ClusterMembers}
 
@@ -49,33 +47,27 @@ module _ (d : Detail) {t : Bool} (et : t ≡ is_text d) where
 
 -- ---- one detail
 
-module _ {c : ClusterMembers} {t : SlotTable} (y : Stands t c) (d : Detail) where
-  abbrev pub m : Model
-  m = model_of t.image
-
-  abbrev pub σ : Slots
-  σ = t.attrs
-
+module _ (m : Model) {c : ClusterMembers} {σ : Slots} (y : Stands m σ c) (d : Detail) where
   -- one that doesn't show
-  module _ {b : Bool} (eb : b ≡ shows d c.seen.real c.seen.integer) (e : b ≡ false) where
+  module _ {t : Bool} (et : t ≡ shows d c.seen.real c.seen.integer) (e : t ≡ false) where
     none : declarations d σ c.members.now ≡ []
-    none = y.unseen d (sym eb ∙ e)
+    none = y.unseen d (sym et ∙ e)
 
-    pub filled-skip : t ≡ with_attrs t (fill m.texts c.members.now d σ)
-    filled-skip = table-is t t (sym (fill-undeclared m.texts c.members.now d σ none)) refl
+    pub filled-skip : σ ≡ fill m.texts c.members.now d σ
+    filled-skip = sym (fill-undeclared m.texts c.members.now d σ none)
 
     pub reported-skip : {r : Report} → Puts 1 (fill_faults m c.root.0 c.members.now d σ) r r
     reported-skip = rw (faults-undeclared m c.members.now d σ none c.root.0) puts-none
 
   -- what no member declares, none declares after a detail
-  pub stands-filled : Stands (with_attrs t (fill m.texts c.members.now d σ)) c
-  stands-filled = record { root = y.root; unseen = λ x h. fill-keeps m.texts c.members.now x d σ (y.unseen x h) }
+  pub stands-filled : {σ' : Slots} → σ' ≡ fill m.texts c.members.now d σ → Stands m σ' c
+  stands-filled e = rw e (record { root = y.root; unseen = λ x h. fill-keeps m.texts c.members.now x d σ (y.unseen x h) })
 
 -- after a list of details
-pub stands-details : {c : ClusterMembers} (ds : List Detail) (t : SlotTable) → Stands t c → Stands (with_attrs t (fill_details (model_of t.image).texts c.members.now ds t.attrs)) c
+pub stands-details : (m : Model) {c : ClusterMembers} (ds : List Detail) (σ : Slots) → Stands m σ c → Stands m (fill_details m.texts c.members.now ds σ) c
 unfolding fill_details
-stands-details [] t y = y
-stands-details {c} (d ∷ ds) t y = stands-details ds (with_attrs t (fill (model_of t.image).texts c.members.now d t.attrs)) (stands-filled y d)
+stands-details m [] σ y = y
+stands-details m {c} (d ∷ ds) σ y = stands-details m ds (fill m.texts c.members.now d σ) (stands-filled m y d refl)
 
 module _ (m : Model) (r : ℕ) (js : List ℕ) (σ : Slots) {t : Bool} where
   module _ (d : Detail) (et : t ≡ conflict m.texts d (declarations d σ js)) where
@@ -100,9 +92,9 @@ module _ (m : Model) (r : ℕ) (js : List ℕ) (σ : Slots) {t : Bool} where
     unfolding display_faults
     display-differ p ex en es e = rw (← et, e, ← en, ← es, ← ex) p
 
-pub display-skip : {c : ClusterMembers} {t : SlotTable} {b : Bool} {r : Report} → Stands t c → b ≡ shows DisplayUnit c.seen.real c.seen.integer → b ≡ false
-    → Puts 1 (display_faults (model_of t.image) c.root.0 c.members.now t.attrs) r r
-display-skip {c} {t} y eb e = rw (display-undeclared (model_of t.image) c.members.now t.attrs (y.unseen DisplayUnit (sym eb ∙ e)) c.root.0) puts-none
+pub display-skip : (m : Model) {c : ClusterMembers} {σ : Slots} {t : Bool} {r : Report} → Stands m σ c → t ≡ shows DisplayUnit c.seen.real c.seen.integer → t ≡ false
+    → Puts 1 (display_faults m c.root.0 c.members.now σ) r r
+display-skip m {c} {σ} y et e = rw (display-undeclared m c.members.now σ (y.unseen DisplayUnit (sym et ∙ e)) c.root.0) puts-none
 
 -- ---- details in turn
 
@@ -111,75 +103,68 @@ unfolding unified_details
 unified-count = refl
 
 -- the details before i are filled, and `done` is what they reported
-pub record Turns (c : ClusterMembers) (t₀ : SlotTable) (r₀ : Report) (t : SlotTable) (r : Report) (i : ℕ) : Type 0 where
-  pub stands : Stands t c
-  pub image : t.image ≡ t₀.image
-  pub slots : fill_details (model_of t₀.image).texts c.members.now unified_details t₀.attrs ≡ fill_details (model_of t₀.image).texts c.members.now (drop i unified_details) t.attrs
+pub record Turns (m : Model) (c : ClusterMembers) (σ₀ : Slots) (r₀ : Report) (σ : Slots) (r : Report) (i : ℕ) : Type 0 where
+  pub stands : Stands m σ c
+  pub slots : fill_details m.texts c.members.now unified_details σ₀ ≡ fill_details m.texts c.members.now (drop i unified_details) σ
   pub done : List Diagnostic
-  pub faults : details_faults (model_of t₀.image) c.root.0 c.members.now unified_details t₀.attrs
-      ≡ done ++ details_faults (model_of t₀.image) c.root.0 c.members.now (drop i unified_details) t.attrs
+  pub faults : details_faults m c.root.0 c.members.now unified_details σ₀ ≡ done ++ details_faults m c.root.0 c.members.now (drop i unified_details) σ
   pub puts : Puts i done r₀ r
 
-module _ {c : ClusterMembers} {t₀ : SlotTable} {r₀ : Report} where
-  pub turns-start : Stands t₀ c → Turns c t₀ r₀ t₀ r₀ 0
-  turns-start y = record { stands = y; image = refl; slots = refl; done = []; faults = refl; puts = puts-none }
+module _ {m : Model} {c : ClusterMembers} {σ₀ : Slots} {r₀ : Report} where
+  pub turns-start : Stands m σ₀ c → Turns m c σ₀ r₀ σ₀ r₀ 0
+  turns-start y = record { stands = y; slots = refl; done = []; faults = refl; puts = puts-none }
 
-  module _ {t : SlotTable} {r : Report} {i : ℕ} (v : Turns c t₀ r₀ t r i) where
+  module _ {σ : Slots} {r : Report} {i : ℕ} (v : Turns m c σ₀ r₀ σ r i) where
     rest : i < unified_count → drop i unified_details ≡ get_or unified_details i Unit ∷ drop (i + 1) unified_details
     rest h = rw add-one (drop-cons unified_details i Unit (rw unified-count h))
 
-    pub turns-next : {d : Detail} {t' : SlotTable} {r' : Report} → d ≡ get_or unified_details i Unit → t' ≡ with_attrs t (fill (model_of t.image).texts c.members.now d t.attrs)
-        → Puts 1 (fill_faults (model_of t.image) c.root.0 c.members.now d t.attrs) r r' → i < unified_count → Turns c t₀ r₀ t' r' (i + 1)
+    pub turns-next : {d : Detail} {σ' : Slots} {r' : Report} → d ≡ get_or unified_details i Unit → σ' ≡ fill m.texts c.members.now d σ
+        → Puts 1 (fill_faults m c.root.0 c.members.now d σ) r r' → i < unified_count → Turns m c σ₀ r₀ σ' r' (i + 1)
     unfolding fill_details details_faults
-    turns-next {d} {t'} ed es p h =
-        let m = model_of t₀.image in
+    turns-next {d} {σ'} ed es p h =
         let js = c.members.now in
-        let σ = t.attrs in
         let ds = drop (i + 1) unified_details in
         let q : drop i unified_details ≡ d ∷ drop (i + 1) unified_details = rest h ∙ ap (λ (x : Detail). x ∷ drop (i + 1) unified_details) (sym ed) in
-        let es' : t' ≡ with_attrs t (fill (model_of t₀.image).texts c.members.now d t.attrs) = es ∙ ap (λ s. with_attrs t (fill (model_of s).texts c.members.now d t.attrs)) v.image in
         record {
-          stands = rw es (stands-filled v.stands d);
-          image = ap (λ (x : SlotTable). x.image) es ∙ v.image;
-          slots = v.slots ∙ ap (λ l. fill_details m.texts js l σ) q ∙ ap (λ (x : SlotTable). fill_details m.texts js ds x.attrs) (sym es');
+          stands = stands-filled m v.stands d es;
+          slots = v.slots ∙ ap (λ l. fill_details m.texts js l σ) q ∙ ap (fill_details m.texts js ds) (sym es);
           done = v.done ++ fill_faults m c.root.0 js d σ;
           faults = v.faults ∙ ap (λ l. v.done ++ details_faults m c.root.0 js l σ) q
               ∙ sym (append_assoc v.done (fill_faults m c.root.0 js d σ) (details_faults m c.root.0 js ds (fill m.texts js d σ)))
-              ∙ ap (λ (x : SlotTable). v.done ++ fill_faults m c.root.0 js d σ ++ details_faults m c.root.0 js ds x.attrs) (sym es');
-          puts = puts-within v.puts (rw v.image at p) (omega arith);
+              ∙ ap (λ τ. v.done ++ fill_faults m c.root.0 js d σ ++ details_faults m c.root.0 js ds τ) (sym es);
+          puts = puts-within v.puts p (omega arith);
         }
 
     module _ (h : unified_count ≤ i) where
       end : drop i unified_details ≡ []
       end = drop_of_length-le unified_details (rw unified-count h)
 
-      pub turns-slots : t ≡ with_attrs t₀ (fill_details (model_of t₀.image).texts c.members.now unified_details t₀.attrs)
+      pub turns-slots : σ ≡ fill_details m.texts c.members.now unified_details σ₀
       unfolding fill_details
-      turns-slots = table-is t₀ t (sym (v.slots ∙ ap (λ l. fill_details (model_of t₀.image).texts c.members.now l t.attrs) end)) v.image
+      turns-slots = sym (v.slots ∙ ap (λ l. fill_details m.texts c.members.now l σ) end)
 
-      pub turns-puts : i ≤ unified_count → Puts unified_count (details_faults (model_of t₀.image) c.root.0 c.members.now unified_details t₀.attrs) r₀ r
+      pub turns-puts : i ≤ unified_count → Puts unified_count (details_faults m c.root.0 c.members.now unified_details σ₀) r₀ r
       unfolding details_faults
-      turns-puts l = puts-more v.puts l (sym (v.faults ∙ ap (λ l. v.done ++ details_faults (model_of t₀.image) c.root.0 c.members.now l t.attrs) end ∙ append-nil v.done))
+      turns-puts l = puts-more v.puts l (sym (v.faults ∙ ap (λ l. v.done ++ details_faults m c.root.0 c.members.now l σ) end ∙ append-nil v.done))
 
 -- ---- the whole cluster
 
-module _ (t : SlotTable) (r : ℕ) (js : List ℕ) {real integer : ℕ} (w : Sees t.attrs js real integer (length js)) where
-  pub stands-seen : {c : ClusterMembers} → c.members.now ≡ js → c.seen.real ≡ real → c.seen.integer ≡ integer → c.root.0 < connector_count (model_of t.image) → Stands t c
+module _ (m : Model) (r : ℕ) (js : List ℕ) (σ : Slots) {real integer : ℕ} (w : Sees σ js real integer (length js)) where
+  pub stands-seen : {c : ClusterMembers} → c.members.now ≡ js → c.seen.real ≡ real → c.seen.integer ≡ integer → c.root.0 < length m.connectors → Stands m σ c
   stands-seen ej er ei h = record { root = h; unseen = λ d e. rw ej (undeclared w d (rw (← er, ← ei) e)) }
 
-  module _ {b : Bool} (eb : b ≡ (eqb real 0 && eqb integer 0)) (e : b ≡ true) where
-    nothing : (d : Detail) → declarations d t.attrs js ≡ []
-    nothing d = undeclared w d (nothing-shows real integer eb e d)
+  module _ {t : Bool} (et : t ≡ (eqb real 0 && eqb integer 0)) (e : t ≡ true) where
+    nothing : (d : Detail) → declarations d σ js ≡ []
+    nothing d = undeclared w d (nothing-shows real integer et e d)
 
-    pub cluster-kept : t ≡ with_attrs t (fill_details (model_of t.image).texts js unified_details t.attrs)
-    cluster-kept = table-is t t (sym (details-undeclared (model_of t.image) js t.attrs nothing unified_details)) refl
+    pub cluster-kept : σ ≡ fill_details m.texts js unified_details σ
+    cluster-kept = sym (details-undeclared m js σ nothing unified_details)
 
-    pub cluster-silent : {n : ℕ} {rep : Report} → Puts n (cluster_faults (model_of t.image) r js t.attrs) rep rep
-    cluster-silent = rw (cluster-undeclared (model_of t.image) js t.attrs nothing r) puts-none
+    pub cluster-silent : {n : ℕ} {rep : Report} → Puts n (cluster_faults m r js σ) rep rep
+    cluster-silent = rw (cluster-undeclared m js σ nothing r) puts-none
 
 -- the details that are filled, and 6.7
-pub cluster-all : (t t' : SlotTable) (r : ℕ) (js : List ℕ) {a b c : Report} → t' ≡ with_attrs t (fill_details (model_of t.image).texts js unified_details t.attrs)
-    → Puts unified_count (details_faults (model_of t.image) r js unified_details t.attrs) a b → Puts 1 (display_faults (model_of t'.image) r js t'.attrs) b c
-    → Puts most_cluster_faults (cluster_faults (model_of t.image) r js t.attrs) a c
+pub cluster-all : (m : Model) (r : ℕ) (js : List ℕ) (σ : Slots) {σ' : Slots} {a b c : Report} → σ' ≡ fill_details m.texts js unified_details σ
+    → Puts unified_count (details_faults m r js unified_details σ) a b → Puts 1 (display_faults m r js σ') b c → Puts most_cluster_faults (cluster_faults m r js σ) a c
 unfolding cluster_faults
-cluster-all t t' r js es p q = puts-within p (rw es at q) (omega arith)
+cluster-all m r js σ es p q = puts-within p (rw es at q) (omega arith)

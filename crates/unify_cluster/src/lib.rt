@@ -7,16 +7,14 @@ ghost use Rattle.oce_diag.specs.Diagnostics.{subject_of};
 ghost use Rattle.oce_diag.specs.Reporting.{Room, Puts};
 ghost use Rattle.unify.specs.Details.{unified_details};
 ghost use Rattle.unify.specs.Unify.{conflict_code, fill, fill_faults, display_faults, fill_details, details_faults, cluster_faults};
-ghost use Rattle.unify_slots.specs.Slots.{with_attrs};
 ghost use Rattle.unify_cluster.specs.Clusters.{unified_count, most_cluster_faults, Stands};
 
 use image_records::Image;
 use oce_diag::{DiagCode, Report, Subject, error, subject_of, warning};
-use oce_model::ConnectorId;
+use oce_model::{Attrs, ConnectorId};
 use unify::{Detail, UNIFIED};
 use unify_seen::{Seen, seen_in};
 use unify_settle::{decide_and_apply, diverges};
-use unify_slots::Slots;
 
 const RULE: u8 = 6;
 
@@ -51,45 +49,47 @@ struct ClusterMembers<'a> {
 impl ClusterMembers<'_> {
     // The Rust's `unify_real` and `unify_int`: a detail, if any member declares it. The members are filled, or
     // there is an error.
-    fn unify_detail(&self, slots: &mut Slots, detail: Detail, report: &mut Report)
-        requires { Stands slots.old self.now × Room 1 report.old }
-        ensures filled { slots.new ≡ with_attrs slots.old (fill (model_of slots.old.image).texts self.now.members.now detail slots.old.attrs) }
-        ensures reported { Puts 1 (fill_faults (model_of slots.old.image) self.now.root.0 self.now.members.now detail slots.old.attrs) report.old report.new }
+    fn unify_detail(&self, image: &Image, slots: &mut [Attrs], detail: Detail, report: &mut Report)
+        requires { Stands (model_of image.now) slots.old self.now × Room 1 report.old }
+        ensures filled { slots.new ≡ fill (model_of image.now).texts self.now.members.now detail slots.old }
+        ensures reported { Puts 1 (fill_faults (model_of image.now) self.now.root.0 self.now.members.now detail slots.old) report.old report.new }
     {
-        if self.seen.shows(detail) && decide_and_apply(slots, self.members, detail).is_err() {
+        if self.seen.shows(detail)
+            && decide_and_apply(image, slots, self.members, detail).is_err()
+        {
             report.put(error(
                 conflict_code(detail),
                 RULE,
                 detail.number(),
-                subject(slots.image(), self.root),
+                subject(image, self.root),
                 self.root.0,
             ));
         }
     }
 
     // 6.1 to 6.6.
-    fn unify_details(&self, slots: &mut Slots, report: &mut Report)
-        requires { Stands slots.old self.now × Room unified_count report.old }
-        ensures filled { slots.new ≡ with_attrs slots.old (fill_details (model_of slots.old.image).texts self.now.members.now unified_details slots.old.attrs) }
-        ensures reported { Puts unified_count (details_faults (model_of slots.old.image) self.now.root.0 self.now.members.now unified_details slots.old.attrs) report.old report.new }
+    fn unify_details(&self, image: &Image, slots: &mut [Attrs], report: &mut Report)
+        requires { Stands (model_of image.now) slots.old self.now × Room unified_count report.old }
+        ensures filled { slots.new ≡ fill_details (model_of image.now).texts self.now.members.now unified_details slots.old }
+        ensures reported { Puts unified_count (details_faults (model_of image.now) self.now.root.0 self.now.members.now unified_details slots.old) report.old report.new }
     {
         for detail in UNIFIED {
-            self.unify_detail(slots, detail, report);
+            self.unify_detail(image, slots, detail, report);
         }
     }
 
     // 6.7, if any member declares it: a warning where display units differ.
-    fn warn_display_unit_divergence(&self, slots: &Slots, report: &mut Report)
-        requires { Stands slots.now self.now × Room 1 report.old }
-        ensures { Puts 1 (display_faults (model_of slots.now.image) self.now.root.0 self.now.members.now slots.now.attrs) report.old report.new }
+    fn warn_display_unit_divergence(&self, image: &Image, slots: &[Attrs], report: &mut Report)
+        requires { Stands (model_of image.now) slots.now self.now × Room 1 report.old }
+        ensures { Puts 1 (display_faults (model_of image.now) self.now.root.0 self.now.members.now slots.now) report.old report.new }
     {
         let detail = Detail::DisplayUnit;
-        if self.seen.shows(detail) && diverges(slots, self.members, detail) {
+        if self.seen.shows(detail) && diverges(image, slots, self.members, detail) {
             report.put(warning(
                 DiagCode::DisplayUnitDivergence,
                 RULE,
                 detail.number(),
-                subject(slots.image(), self.root),
+                subject(image, self.root),
                 self.root.0,
             ));
         }
@@ -97,10 +97,16 @@ impl ClusterMembers<'_> {
 }
 
 // A cluster: nothing is to be done where nothing is declared.
-pub fn cluster(slots: &mut Slots, members: &[usize], root: ConnectorId, report: &mut Report)
-    requires { (root.0 < connector_count (model_of slots.old.image)) × Room most_cluster_faults report.old }
-    ensures filled { slots.new ≡ with_attrs slots.old (fill_details (model_of slots.old.image).texts members.now unified_details slots.old.attrs) }
-    ensures reported { Puts most_cluster_faults (cluster_faults (model_of slots.old.image) root.0 members.now slots.old.attrs) report.old report.new }
+pub fn cluster(
+    image: &Image,
+    slots: &mut [Attrs],
+    members: &[usize],
+    root: ConnectorId,
+    report: &mut Report,
+)
+    requires { (root.0 < connector_count (model_of image.now)) × Room most_cluster_faults report.old }
+    ensures filled { slots.new ≡ fill_details (model_of image.now).texts members.now unified_details slots.old }
+    ensures reported { Puts most_cluster_faults (cluster_faults (model_of image.now) root.0 members.now slots.old) report.old report.new }
 {
     let seen = seen_in(slots, members);
     if !seen.is_empty() {
@@ -109,7 +115,7 @@ pub fn cluster(slots: &mut Slots, members: &[usize], root: ConnectorId, report: 
             members,
             seen,
         };
-        cluster.unify_details(slots, report);
-        cluster.warn_display_unit_divergence(slots, report);
+        cluster.unify_details(image, slots, report);
+        cluster.warn_display_unit_divergence(image, slots, report);
     }
 }
