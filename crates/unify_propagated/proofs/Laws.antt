@@ -1,9 +1,10 @@
 -- Laws of 6.8.
-use Prim.Native.Nat.{ℕ}
+use Prim.Native.Nat.{ℕ, ◌≤◌}
 use native.Mathlib.Omega.{arith}
 use mathlib.Core.Path.{◌≡◌, ◌∙◌}
 use mathlib.Core.Bool.{Bool, true, false}
 use mathlib.Core.List.{[], ◌∷◌}
+use lib.ListN.{length}
 use Rattle.oce_model.specs.Model.{Model, connector, connector_count}
 use Rattle.oce_diag.specs.Diagnostics.{subject_of, error}
 use Rattle.oce_diag.specs.Reporting.{Puts, Turns}
@@ -17,6 +18,7 @@ use Rattle.crossed_bounds.specs.Ends.{Range}
 use Rattle.unify.specs.Clusters.{is_root}
 use Rattle.unify.specs.Slots.{Slots, slot}
 use Rattle.unify.specs.Unify.{filled_slots, propagated_faults, propagated}
+use Rattle.unify.proofs.Local.{filled_to-length}
 
 -- ---- one root
 
@@ -37,7 +39,11 @@ module _ (m : Model) (σ : Slots) (r : ℕ) {b : Bool} (eb : b ≡ is_root m r) 
 
 -- ---- all roots
 
-pub propagated-all : (m : Model) {n : ℕ} {rep rep' : Report} → n ≡ connector_count m → {r : ℕ} → Turns (propagated_faults m (filled_slots m)) 1 rep rep' r → r ≡ n
+pub filled-long : (m : Model) {σ : Slots} → σ ≡ filled_slots m → connector_count m ≤ length σ
+unfolding filled_slots
+filled-long m e = rw e (omega (arith, filled_to-length m (connector_count m)))
+
+pub propagated-all : (m : Model) {σ : Slots} {n : ℕ} {rep rep' : Report} → σ ≡ filled_slots m → n ≡ connector_count m → {r : ℕ} → Turns (propagated_faults m σ) 1 rep rep' r → r ≡ n
     → Puts (connector_count m) (propagated m) rep rep'
 unfolding propagated
-propagated-all m en v e = turns-end v (connector_count m) (connector_count m) (e ∙ en) (omega arith) (omega arith)
+propagated-all m es en v e = rw (← es) (turns-end v (connector_count m) (connector_count m) (e ∙ en) (omega arith) (omega arith))

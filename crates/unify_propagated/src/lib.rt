@@ -1,7 +1,7 @@
 // 6.8: roots whose range is crossed after all roots are filled (FORMAT 16).
 #![tactic(auto)]
 
-ghost use Rattle.std.specs.Prelude.{◌≡◌, ◌<◌};
+ghost use Rattle.std.specs.Prelude.{◌≡◌, ◌≤◌, ◌<◌, length};
 ghost use Rattle.oce_model.specs.Format.{most_connectors};
 ghost use Rattle.oce_model.specs.Model.{model_of, connector_count};
 ghost use Rattle.oce_diag.specs.Reporting.{Room, Puts};
@@ -19,8 +19,8 @@ const CROSSED_DETAIL: u8 = 8;
 
 // The test of one connector, if it is a root.
 fn check_propagated_cluster(links: &Links, slots: &[Attrs], root: ConnectorId, report: &mut Report)
-    requires { (slots.now ≡ filled_slots (model_of links.now)) × (root.0 < connector_count (model_of links.now)) × Room 1 report.old }
-    ensures { Puts 1 (propagated_faults (model_of links.now) (filled_slots (model_of links.now)) root.0) report.old report.new }
+    requires { (root.0 < connector_count (model_of links.now)) × (connector_count (model_of links.now) ≤ length slots.now) × Room 1 report.old }
+    ensures { Puts 1 (propagated_faults (model_of links.now) slots.now root.0) report.old report.new }
 {
     let image = links.image();
     if links.is_root(root) && is_crossed(range_of(image, &slots[root.0 as usize])) {
