@@ -14,7 +14,7 @@ use Rattle.oce_diag.specs.declared.report.Report.{Report}
 use Rattle.oce_diag.proofs.Diagnostics.{no-errors, some-error}
 use Rattle.oce_diag.proofs.Reporting.{puts-within, puts-more}
 use Rattle.unify.specs.Unify.{clusters_faults, propagated, rule6}
-use Rattle.unify_slots.specs.Slots.{SlotTable, filled}
+use Rattle.unify_clusters.specs.Slots.{SlotTable, filled}
 use Rattle.unify_cluster.specs.Clusters.{most_cluster_faults}
 use Rattle.unify_clusters.specs.Unified.{Unified}
 

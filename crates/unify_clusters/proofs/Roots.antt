@@ -16,13 +16,17 @@ use Rattle.oce_diag.specs.declared.report.Report.{Report}
 use Rattle.oce_diag.proofs.Reporting.{puts-none, turns-start, turns-next, turns-end, turns-room}
 use Rattle.unify.specs.Clusters.{driven, is_root}
 use Rattle.unify.specs.Details.{unified_details}
+use Rattle.unify.specs.Slots.{Slots}
 use Rattle.unify.specs.Unify.{fill_root, fill_details, root_faults, cluster_faults, filled_to, filled_slots, clusters_faults}
-use Rattle.unify_slots.specs.Slots.{SlotTable, with_attrs, loaded, filled_before, filled}
+use Rattle.unify_clusters.specs.Slots.{SlotTable, loaded, filled_before, filled}
 use Rattle.unify_links.specs.Links.{Gathered}
 use Rattle.unify_cluster.specs.Clusters.{most_cluster_faults}
 use Rattle.unify_clusters.specs.Unified.{most_roots_faults}
 
 -- ---- one root
+
+abbrev pub table : List ℕ → Slots → SlotTable
+table s σ = record { image = s; attrs = σ }
 
 module _ (s : List ℕ) {r : ℕ} {js : List ℕ} (g : Gathered (model_of s) r js) {t : SlotTable} (at : t ≡ filled_before s r) where
   abbrev pub m : Model
@@ -35,7 +39,7 @@ module _ (s : List ℕ) {r : ℕ} {js : List ℕ} (g : Gathered (model_of s) r j
 
     pub no-root-filled : t ≡ filled_before s (r + 1)
     unfolding fill_root filled_to
-    no-root-filled = at ∙ ap (with_attrs (filled_before s r)) (rw (steps_next r, not_root))
+    no-root-filled = at ∙ ap (table s) (rw (steps_next r, not_root))
 
     pub no-root-reported : {n : ℕ} {a : Report} → Puts n (root_faults m r (filled_to m r)) a a
     unfolding root_faults
@@ -46,9 +50,9 @@ module _ (s : List ℕ) {r : ℕ} {js : List ℕ} (g : Gathered (model_of s) r j
     unfolding is_root
     a-root = lt-ltb 0 (length (driven m r)) (omega (arith, ap length g.cluster))
 
-    pub root-filled : {t' : SlotTable} → t' ≡ with_attrs t (fill_details (model_of t.image).texts js unified_details t.attrs) → t' ≡ filled_before s (r + 1)
+    pub root-filled : {σ : Slots} → σ ≡ fill_details (model_of t.image).texts js unified_details t.attrs → table t.image σ ≡ filled_before s (r + 1)
     unfolding fill_root filled_to
-    root-filled e = e ∙ rw at (ap (with_attrs (filled_before s r)) (rw (steps_next r, a-root, ← g.cluster)))
+    root-filled e = rw (e, at) (ap (table s) (rw (steps_next r, a-root, ← g.cluster)))
 
     pub root-reported : {n : ℕ} {a b : Report} → Puts n (cluster_faults (model_of t.image) r js t.attrs) a b → Puts n (root_faults m r (filled_to m r)) a b
     unfolding root_faults

@@ -5,7 +5,7 @@ use Rattle.oce_model.specs.Model.{Model, model_of, connector_count}
 use Rattle.oce_diag.specs.Reporting.{Puts}
 use Rattle.oce_diag.specs.declared.report.Report.{Report}
 use Rattle.unify.specs.Unify.{rule6}
-use Rattle.unify_slots.specs.Slots.{SlotTable, filled}
+use Rattle.unify_clusters.specs.Slots.{SlotTable, filled}
 use Rattle.unify_links.specs.Links.{link_count}
 use Rattle.unify_cluster.specs.Clusters.{most_cluster_faults}
 

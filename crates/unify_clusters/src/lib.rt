@@ -6,18 +6,20 @@ ghost use Rattle.std.specs.Prelude.{◌≡◌, ◌+◌, ◌*◌, ◌<◌, length
 ghost use Rattle.oce_model.specs.Model.{model_of, connector_count};
 ghost use Rattle.oce_diag.specs.Reporting.{Room, Puts};
 ghost use Rattle.unify.specs.Unify.{filled_to, root_faults, clusters_faults};
-ghost use Rattle.unify_slots.specs.Slots.{loaded, filled_before, filled};
 ghost use Rattle.unify_links.specs.Links.{link_count};
 ghost use Rattle.unify_cluster.specs.Clusters.{most_cluster_faults};
+ghost use Rattle.unify_clusters.specs.Slots.{loaded, filled_before, filled};
 ghost use Rattle.unify_clusters.specs.Unified.{most_roots_faults, most_unified_faults, Roomy, Unified};
+
+mod slots;
 
 use oce_diag::Report;
 use oce_model::{ConnectorId, MOST_BOUNDARY_OUTPUTS, MOST_CONNECTIONS, MOST_CONNECTORS};
+pub use slots::Slots;
 use structural_degrees::InDegrees;
 use unify_cluster::cluster;
 use unify_links::{Links, link_count};
 use unify_propagated::check_propagated_clusters;
-use unify_slots::Slots;
 
 // ---- roots
 
@@ -36,7 +38,7 @@ fn unify_root(
 {
     let gathered = links.gather(root, members);
     if 1 < gathered.len() {
-        cluster(slots, gathered, root, report);
+        cluster(slots.image, slots.attrs, gathered, root, report);
     }
 }
 
@@ -82,7 +84,7 @@ fn linked_roots<const CONNECTORS: usize, const LINKS: usize, const MEMBERS: usiz
     let links = Links::list(degrees, &mut head, &mut next);
     unify_roots(&links, slots, &mut members, report);
     if report.counted.errors == 0 {
-        check_propagated_clusters(&links, slots, report);
+        check_propagated_clusters(&links, slots.attrs(), report);
     }
 }
 
