@@ -18,7 +18,7 @@ use Rattle.oce_diag.specs.Encoding.{diagnostic_size}
 use Rattle.oce_diag.specs.declared.Counted.{Counted}
 use Rattle.oce_diag.proofs.Encoding.{report_bytes-length}
 use Rattle.oce_diag.proofs.Putting.{put-errors, put-warnings, put-room}
-use Rattle.unify_slots.specs.Slots.{SlotTable}
+use Rattle.unify_clusters.specs.Slots.{SlotTable}
 use Rattle.outcome.specs.Answer.{Answer, report_of}
 use Rattle.rules.specs.Ran.{Ran}
 use Rattle.batch.specs.Output.{summary_size, count_of, size_of, summary_of, image_report, summary_field, summary_bytes, image_output}

@@ -17,7 +17,8 @@ use oce_model::Refusal;
 use oce_validate::{FEW_SLOTS, MOST_SLOTS};
 use outcome::Answer;
 use rules::run;
-use unify_slots::{NO_ATTRS, Slots, slot_count};
+use unify_clusters::Slots;
+use unify_slots::{NO_ATTRS, slot_count};
 
 // ---- the check
 

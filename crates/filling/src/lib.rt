@@ -18,7 +18,7 @@ use oce_model::{
     CONNECTOR_ATTRS, CONNECTOR_SIZE, DISPLAY_UNIT_BIT, MAX_BIT, MIN_BIT, NOMINAL_BIT, QUANTITY_BIT,
     UNIT_BIT,
 };
-use unify_slots::Slots;
+use unify_clusters::Slots;
 
 // The bytes of a slot: kind and marks, its text numbers by their low 16 bits, its numbers of 64 bits.
 fn encode(slot: &Attrs) -> [u8; ATTRS_LENGTH]

@@ -21,7 +21,7 @@ use Rattle.oce_diag.specs.declared.Counted.{Counted}
 use Rattle.oce_diag.proofs.Diagnostics.{errors-warnings, no-errors, some-error}
 use Rattle.oce_diag.proofs.Putting.{put-errors, put-warnings, put-room, put_all-length}
 use Rattle.oce_diag.proofs.Encoding.{report_bytes-length}
-use Rattle.unify_slots.specs.Slots.{SlotTable}
+use Rattle.unify_clusters.specs.Slots.{SlotTable}
 use Rattle.outcome.specs.Filled.{with_slots, filled_of}
 use Rattle.outcome.specs.Report.{final_slots}
 use Rattle.outcome.specs.Answer.{report_of, report_size, answer, filled_after, report_after}

@@ -4,7 +4,7 @@ use Rattle.oce_diag.specs.Diagnostics.{errors, warnings}
 use Rattle.oce_diag.specs.Putting.{total}
 use Rattle.oce_diag.specs.Encoding.{report_bytes}
 use Rattle.oce_diag.specs.declared.Counted.{Counted}
-use Rattle.unify_slots.specs.Slots.{SlotTable, filled}
+use Rattle.unify_clusters.specs.Slots.{SlotTable, filled}
 use Rattle.outcome.specs.Answer.{Answer, report_of, report_size, answer, filled_after, report_after}
 use Rattle.rules.specs.Ran.{most_diagnostics}
 

@@ -19,7 +19,8 @@ use oce_diag::{Counted, DIAGNOSTIC_SIZE};
 use oce_model::{MOST_BOUNDARY_OUTPUTS, MOST_CONNECTORS, Refusal};
 use outcome::Answer;
 use rules::run;
-use unify_slots::{NO_ATTRS, Slots, slot_count};
+use unify_clusters::Slots;
+use unify_slots::{NO_ATTRS, slot_count};
 
 // No image has more slots: one for each connector and each boundary output.
 pub const MOST_SLOTS: usize = MOST_CONNECTORS + MOST_BOUNDARY_OUTPUTS;

@@ -17,7 +17,7 @@ use Rattle.oce_diag.specs.Reporting.{Puts}
 use Rattle.oce_diag.specs.declared.report.Report.{Report}
 use Rattle.oce_diag.proofs.Diagnostics.{no-errors, some-error}
 use Rattle.oce_diag.proofs.Putting.{put_then}
-use Rattle.unify_slots.specs.Slots.{SlotTable}
+use Rattle.unify_clusters.specs.Slots.{SlotTable}
 use Rattle.unify_cluster.specs.Clusters.{most_cluster_faults}
 use Rattle.unify.specs.Unify.{rule6}
 use Rattle.unify_clusters.specs.Unified.{Unified}

@@ -8,7 +8,7 @@ use Rattle.structural_arena_ids.specs.PerRecord.{most_arena_faults}
 use Rattle.structural_wiring.specs.PerRecord.{most_output_faults, most_connection_faults}
 use Rattle.structural_assignment.specs.PerRecord.{most_assignment_faults}
 use Rattle.crossed_records.specs.Most.{most_crossed}
-use Rattle.unify_slots.specs.Slots.{SlotTable, filled}
+use Rattle.unify_clusters.specs.Slots.{SlotTable, filled}
 use Rattle.unify_clusters.specs.Unified.{most_unified_faults}
 use Rattle.outcome.specs.Report.{report}
 

@@ -14,8 +14,7 @@ use oce_model::{MOST_CONNECTORS, MOST_EXTERNAL_INPUTS};
 use structural_arena_ids::check_arena_ids;
 use structural_assignment::{Drivers, check_single_assignment};
 use structural_wiring::{check_boundary_outputs, check_connections};
-use unify_clusters::unify_clusters;
-use unify_slots::Slots;
+use unify_clusters::{Slots, unify_clusters};
 
 // So many connectors, and so many external inputs, have shorter columns, which are sooner cleared.
 const FEW_RECORDS: usize = 192;

@@ -1,6 +1,6 @@
 -- `oce_validate::check_over` meets its contract.
 use Rattle.std.proofs.Common.{◌≡◌, ap}
-use Rattle.unify_slots.specs.Slots.{SlotTable}
+use Rattle.unify_clusters.specs.Slots.{SlotTable}
 use Rattle.oce_validate.proofs.Laws.{short-report, reported}
 use Rattle.oce_validate.proofs.check_over.Goals as goal
 
