@@ -8,7 +8,7 @@ use mathlib.Core.List.{List, [], ◌∷◌, ◌++◌, append-nil, append_assoc}
 use lib.Dec.{eqb}
 use lib.ListN.{length, get_or, drop, drop_of_length-le}
 use lib.Seq.{drop-cons}
-use Rattle.oce_model.specs.Model.{Model, model_of, connector}
+use Rattle.oce_model.specs.Model.{Model, model_of, connector, connector_count}
 use Rattle.oce_model.specs.declared.ConnectorFront.{ConnectorFront}
 use Rattle.image_records.specs.Records.{connector_read}
 use Rattle.oce_diag.specs.Diagnostics.{connector_subject, subject_of, error, warning}
@@ -47,7 +47,13 @@ module _ (d : Detail) {t : Bool} (et : t ≡ is_text d) where
 
 -- ---- one detail
 
-module _ (m : Model) {c : ClusterMembers} {σ : Slots} (y : Stands m σ c) (d : Detail) where
+abbrev pub model : ClusterMembers → Model
+model c = model_of c.image.now
+
+module _ {c : ClusterMembers} {σ : Slots} (y : Stands σ c) (d : Detail) where
+  abbrev pub m : Model
+  m = model c
+
   -- one that doesn't show
   module _ {t : Bool} (et : t ≡ shows d c.seen.real c.seen.integer) (e : t ≡ false) where
     none : declarations d σ c.members.now ≡ []
@@ -60,14 +66,14 @@ module _ (m : Model) {c : ClusterMembers} {σ : Slots} (y : Stands m σ c) (d : 
     reported-skip = rw (faults-undeclared m c.members.now d σ none c.root.0) puts-none
 
   -- what no member declares, none declares after a detail
-  pub stands-filled : {σ' : Slots} → σ' ≡ fill m.texts c.members.now d σ → Stands m σ' c
+  pub stands-filled : {σ' : Slots} → σ' ≡ fill m.texts c.members.now d σ → Stands σ' c
   stands-filled e = rw e (record { root = y.root; unseen = λ x h. fill-keeps m.texts c.members.now x d σ (y.unseen x h) })
 
 -- after a list of details
-pub stands-details : (m : Model) {c : ClusterMembers} (ds : List Detail) (σ : Slots) → Stands m σ c → Stands m (fill_details m.texts c.members.now ds σ) c
+pub stands-details : {c : ClusterMembers} (ds : List Detail) (σ : Slots) → Stands σ c → Stands (fill_details (model c).texts c.members.now ds σ) c
 unfolding fill_details
-stands-details m [] σ y = y
-stands-details m {c} (d ∷ ds) σ y = stands-details m ds (fill m.texts c.members.now d σ) (stands-filled m y d refl)
+stands-details [] σ y = y
+stands-details {c} (d ∷ ds) σ y = stands-details ds (fill (model c).texts c.members.now d σ) (stands-filled y d refl)
 
 module _ (m : Model) (r : ℕ) (js : List ℕ) (σ : Slots) {t : Bool} where
   module _ (d : Detail) (et : t ≡ conflict m.texts d (declarations d σ js)) where
@@ -92,9 +98,9 @@ module _ (m : Model) (r : ℕ) (js : List ℕ) (σ : Slots) {t : Bool} where
     unfolding display_faults
     display-differ p ex en es e = rw (← et, e, ← en, ← es, ← ex) p
 
-pub display-skip : (m : Model) {c : ClusterMembers} {σ : Slots} {t : Bool} {r : Report} → Stands m σ c → t ≡ shows DisplayUnit c.seen.real c.seen.integer → t ≡ false
-    → Puts 1 (display_faults m c.root.0 c.members.now σ) r r
-display-skip m {c} {σ} y et e = rw (display-undeclared m c.members.now σ (y.unseen DisplayUnit (sym et ∙ e)) c.root.0) puts-none
+pub display-skip : {c : ClusterMembers} {σ : Slots} {t : Bool} {r : Report} → Stands σ c → t ≡ shows DisplayUnit c.seen.real c.seen.integer → t ≡ false
+    → Puts 1 (display_faults (model c) c.root.0 c.members.now σ) r r
+display-skip {c} {σ} y et e = rw (display-undeclared (model c) c.members.now σ (y.unseen DisplayUnit (sym et ∙ e)) c.root.0) puts-none
 
 -- ---- details in turn
 
@@ -103,30 +109,31 @@ unfolding unified_details
 unified-count = refl
 
 -- the details before i are filled, and `done` is what they reported
-pub record Turns (m : Model) (c : ClusterMembers) (σ₀ : Slots) (r₀ : Report) (σ : Slots) (r : Report) (i : ℕ) : Type 0 where
-  pub stands : Stands m σ c
-  pub slots : fill_details m.texts c.members.now unified_details σ₀ ≡ fill_details m.texts c.members.now (drop i unified_details) σ
+pub record Turns (c : ClusterMembers) (σ₀ : Slots) (r₀ : Report) (σ : Slots) (r : Report) (i : ℕ) : Type 0 where
+  pub stands : Stands σ c
+  pub slots : fill_details (model c).texts c.members.now unified_details σ₀ ≡ fill_details (model c).texts c.members.now (drop i unified_details) σ
   pub done : List Diagnostic
-  pub faults : details_faults m c.root.0 c.members.now unified_details σ₀ ≡ done ++ details_faults m c.root.0 c.members.now (drop i unified_details) σ
+  pub faults : details_faults (model c) c.root.0 c.members.now unified_details σ₀ ≡ done ++ details_faults (model c) c.root.0 c.members.now (drop i unified_details) σ
   pub puts : Puts i done r₀ r
 
-module _ {m : Model} {c : ClusterMembers} {σ₀ : Slots} {r₀ : Report} where
-  pub turns-start : Stands m σ₀ c → Turns m c σ₀ r₀ σ₀ r₀ 0
+module _ {c : ClusterMembers} {σ₀ : Slots} {r₀ : Report} where
+  pub turns-start : Stands σ₀ c → Turns c σ₀ r₀ σ₀ r₀ 0
   turns-start y = record { stands = y; slots = refl; done = []; faults = refl; puts = puts-none }
 
-  module _ {σ : Slots} {r : Report} {i : ℕ} (v : Turns m c σ₀ r₀ σ r i) where
+  module _ {σ : Slots} {r : Report} {i : ℕ} (v : Turns c σ₀ r₀ σ r i) where
     rest : i < unified_count → drop i unified_details ≡ get_or unified_details i Unit ∷ drop (i + 1) unified_details
     rest h = rw add-one (drop-cons unified_details i Unit (rw unified-count h))
 
-    pub turns-next : {d : Detail} {σ' : Slots} {r' : Report} → d ≡ get_or unified_details i Unit → σ' ≡ fill m.texts c.members.now d σ
-        → Puts 1 (fill_faults m c.root.0 c.members.now d σ) r r' → i < unified_count → Turns m c σ₀ r₀ σ' r' (i + 1)
+    pub turns-next : {d : Detail} {σ' : Slots} {r' : Report} → d ≡ get_or unified_details i Unit → σ' ≡ fill (model c).texts c.members.now d σ
+        → Puts 1 (fill_faults (model c) c.root.0 c.members.now d σ) r r' → i < unified_count → Turns c σ₀ r₀ σ' r' (i + 1)
     unfolding fill_details details_faults
     turns-next {d} {σ'} ed es p h =
+        let m = model c in
         let js = c.members.now in
         let ds = drop (i + 1) unified_details in
         let q : drop i unified_details ≡ d ∷ drop (i + 1) unified_details = rest h ∙ ap (λ (x : Detail). x ∷ drop (i + 1) unified_details) (sym ed) in
         record {
-          stands = stands-filled m v.stands d es;
+          stands = stands-filled v.stands d es;
           slots = v.slots ∙ ap (λ l. fill_details m.texts js l σ) q ∙ ap (fill_details m.texts js ds) (sym es);
           done = v.done ++ fill_faults m c.root.0 js d σ;
           faults = v.faults ∙ ap (λ l. v.done ++ details_faults m c.root.0 js l σ) q
@@ -139,29 +146,29 @@ module _ {m : Model} {c : ClusterMembers} {σ₀ : Slots} {r₀ : Report} where
       end : drop i unified_details ≡ []
       end = drop_of_length-le unified_details (rw unified-count h)
 
-      pub turns-slots : σ ≡ fill_details m.texts c.members.now unified_details σ₀
+      pub turns-slots : σ ≡ fill_details (model c).texts c.members.now unified_details σ₀
       unfolding fill_details
-      turns-slots = sym (v.slots ∙ ap (λ l. fill_details m.texts c.members.now l σ) end)
+      turns-slots = sym (v.slots ∙ ap (λ l. fill_details (model c).texts c.members.now l σ) end)
 
-      pub turns-puts : i ≤ unified_count → Puts unified_count (details_faults m c.root.0 c.members.now unified_details σ₀) r₀ r
+      pub turns-puts : i ≤ unified_count → Puts unified_count (details_faults (model c) c.root.0 c.members.now unified_details σ₀) r₀ r
       unfolding details_faults
-      turns-puts l = puts-more v.puts l (sym (v.faults ∙ ap (λ l. v.done ++ details_faults m c.root.0 c.members.now l σ) end ∙ append-nil v.done))
+      turns-puts l = puts-more v.puts l (sym (v.faults ∙ ap (λ l. v.done ++ details_faults (model c) c.root.0 c.members.now l σ) end ∙ append-nil v.done))
 
 -- ---- the whole cluster
 
-module _ (m : Model) (r : ℕ) (js : List ℕ) (σ : Slots) {real integer : ℕ} (w : Sees σ js real integer (length js)) where
-  pub stands-seen : {c : ClusterMembers} → c.members.now ≡ js → c.seen.real ≡ real → c.seen.integer ≡ integer → c.root.0 < length m.connectors → Stands m σ c
+module _ {σ : Slots} {js : List ℕ} {real integer : ℕ} (w : Sees σ js real integer (length js)) where
+  pub stands-seen : {c : ClusterMembers} → c.members.now ≡ js → c.seen.real ≡ real → c.seen.integer ≡ integer → c.root.0 < connector_count (model c) → Stands σ c
   stands-seen ej er ei h = record { root = h; unseen = λ d e. rw ej (undeclared w d (rw (← er, ← ei) e)) }
 
   module _ {t : Bool} (et : t ≡ (eqb real 0 && eqb integer 0)) (e : t ≡ true) where
     nothing : (d : Detail) → declarations d σ js ≡ []
     nothing d = undeclared w d (nothing-shows real integer et e d)
 
-    pub cluster-kept : σ ≡ fill_details m.texts js unified_details σ
-    cluster-kept = sym (details-undeclared m js σ nothing unified_details)
+    pub cluster-kept : (m : Model) → σ ≡ fill_details m.texts js unified_details σ
+    cluster-kept m = sym (details-undeclared m js σ nothing unified_details)
 
-    pub cluster-silent : {n : ℕ} {rep : Report} → Puts n (cluster_faults m r js σ) rep rep
-    cluster-silent = rw (cluster-undeclared m js σ nothing r) puts-none
+    pub cluster-silent : (m : Model) (r : ℕ) {n : ℕ} {rep : Report} → Puts n (cluster_faults m r js σ) rep rep
+    cluster-silent m r = rw (cluster-undeclared m js σ nothing r) puts-none
 
 -- the details that are filled, and 6.7
 pub cluster-all : (m : Model) (r : ℕ) (js : List ℕ) (σ : Slots) {σ' : Slots} {a b c : Report} → σ' ≡ fill_details m.texts js unified_details σ

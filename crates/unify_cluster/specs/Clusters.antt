@@ -1,6 +1,6 @@
 -- One cluster of rule 6 as code has it (FORMAT 16).
 use Rattle.std.specs.Prelude.{ℕ, ◌+◌, ◌<◌, ◌≡◌, false, []}
-use Rattle.oce_model.specs.Model.{Model, connector_count}
+use Rattle.oce_model.specs.Model.{model_of, connector_count}
 use Rattle.unify.specs.Slots.{Slots}
 use Rattle.unify.specs.Unify.{declarations}
 use Rattle.unify.specs.declared.Detail.{Detail}
@@ -16,6 +16,6 @@ abbrev pub most_cluster_faults : ℕ
 most_cluster_faults = unified_count + 1
 
 -- its root is a connector, and what doesn't show in what was seen of them none of them declares
-pub record Stands (m : Model) (σ : Slots) (c : ClusterMembers) : Type 0 where
-  pub root : c.root.0 < connector_count m
+pub record Stands (σ : Slots) (c : ClusterMembers) : Type 0 where
+  pub root : c.root.0 < connector_count (model_of c.image.now)
   pub unseen : (d : Detail) → shows d c.seen.real c.seen.integer ≡ false → declarations d σ c.members.now ≡ []

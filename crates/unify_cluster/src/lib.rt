@@ -38,58 +38,59 @@ fn conflict_code(detail: Detail) -> DiagCode
     }
 }
 
-// The Rust's `ClusterMembers`: a root and its members, the root first, with what they declare.
+// The Rust's `ClusterMembers`: a root of an image and its members, the root first, with what they declare.
 #[derive(Clone, Copy)]
-struct ClusterMembers<'a> {
+struct ClusterMembers<'a, 'i> {
+    image: &'a Image<'i, 'i>,
     root: ConnectorId,
     members: &'a [usize],
     seen: Seen,
 }
 
-impl ClusterMembers<'_> {
+impl ClusterMembers<'_, '_> {
     // The Rust's `unify_real` and `unify_int`: a detail, if any member declares it. The members are filled, or
     // there is an error.
-    fn unify_detail(&self, image: &Image, slots: &mut [Attrs], detail: Detail, report: &mut Report)
-        requires { Stands (model_of image.now) slots.old self.now × Room 1 report.old }
-        ensures filled { slots.new ≡ fill (model_of image.now).texts self.now.members.now detail slots.old }
-        ensures reported { Puts 1 (fill_faults (model_of image.now) self.now.root.0 self.now.members.now detail slots.old) report.old report.new }
+    fn unify_detail(&self, slots: &mut [Attrs], detail: Detail, report: &mut Report)
+        requires { Stands slots.old self.now × Room 1 report.old }
+        ensures filled { slots.new ≡ fill (model_of self.now.image.now).texts self.now.members.now detail slots.old }
+        ensures reported { Puts 1 (fill_faults (model_of self.now.image.now) self.now.root.0 self.now.members.now detail slots.old) report.old report.new }
     {
         if self.seen.shows(detail)
-            && decide_and_apply(image, slots, self.members, detail).is_err()
+            && decide_and_apply(self.image, slots, self.members, detail).is_err()
         {
             report.put(error(
                 conflict_code(detail),
                 RULE,
                 detail.number(),
-                subject(image, self.root),
+                subject(self.image, self.root),
                 self.root.0,
             ));
         }
     }
 
     // 6.1 to 6.6.
-    fn unify_details(&self, image: &Image, slots: &mut [Attrs], report: &mut Report)
-        requires { Stands (model_of image.now) slots.old self.now × Room unified_count report.old }
-        ensures filled { slots.new ≡ fill_details (model_of image.now).texts self.now.members.now unified_details slots.old }
-        ensures reported { Puts unified_count (details_faults (model_of image.now) self.now.root.0 self.now.members.now unified_details slots.old) report.old report.new }
+    fn unify_details(&self, slots: &mut [Attrs], report: &mut Report)
+        requires { Stands slots.old self.now × Room unified_count report.old }
+        ensures filled { slots.new ≡ fill_details (model_of self.now.image.now).texts self.now.members.now unified_details slots.old }
+        ensures reported { Puts unified_count (details_faults (model_of self.now.image.now) self.now.root.0 self.now.members.now unified_details slots.old) report.old report.new }
     {
         for detail in UNIFIED {
-            self.unify_detail(image, slots, detail, report);
+            self.unify_detail(slots, detail, report);
         }
     }
 
     // 6.7, if any member declares it: a warning where display units differ.
-    fn warn_display_unit_divergence(&self, image: &Image, slots: &[Attrs], report: &mut Report)
-        requires { Stands (model_of image.now) slots.now self.now × Room 1 report.old }
-        ensures { Puts 1 (display_faults (model_of image.now) self.now.root.0 self.now.members.now slots.now) report.old report.new }
+    fn warn_display_unit_divergence(&self, slots: &[Attrs], report: &mut Report)
+        requires { Stands slots.now self.now × Room 1 report.old }
+        ensures { Puts 1 (display_faults (model_of self.now.image.now) self.now.root.0 self.now.members.now slots.now) report.old report.new }
     {
         let detail = Detail::DisplayUnit;
-        if self.seen.shows(detail) && diverges(image, slots, self.members, detail) {
+        if self.seen.shows(detail) && diverges(self.image, slots, self.members, detail) {
             report.put(warning(
                 DiagCode::DisplayUnitDivergence,
                 RULE,
                 detail.number(),
-                subject(image, self.root),
+                subject(self.image, self.root),
                 self.root.0,
             ));
         }
@@ -111,11 +112,12 @@ pub fn cluster(
     let seen = seen_in(slots, members);
     if !seen.is_empty() {
         let cluster = ClusterMembers {
+            image,
             root,
             members,
             seen,
         };
-        cluster.unify_details(image, slots, report);
-        cluster.warn_display_unit_divergence(image, slots, report);
+        cluster.unify_details(slots, report);
+        cluster.warn_display_unit_divergence(slots, report);
     }
 }
