@@ -1,12 +1,13 @@
 -- Laws of links and their lists.
 use Rattle.std.specs.Prelude.{Option}
 use Rattle.std.specs.Prelude.{None, Some, is_some}
+use Rattle.std.specs.Bool.{then_some}
 use Prim.Native.Nat.{ℕ, zero, suc, ◌+◌, ◌-◌, ◌≤◌, ◌<◌}
 use native.Mathlib.Numerals.{add-one}
 use native.Mathlib.Decide.{dec_lt, ℕ_discrete}
 use native.Mathlib.Omega.{arith}
 use mathlib.Core.Path.{◌≡◌, refl, sym, ap, ◌∙◌}
-use mathlib.Core.Bool.{Bool, true, false, cond, ◌&&◌}
+use mathlib.Core.Bool.{Bool, true, false, cond, not, ◌&&◌}
 use mathlib.Core.List.{List, [], ◌∷◌, ◌++◌, append-nil}
 use lib.Dec.{eqb, ltb}
 use lib.ListN.{length, get_or, set, take, length-set, length-append, get_or-append}
@@ -53,34 +54,32 @@ module _ (m : Model) {n : ℕ} (en : n ≡ connector_count m) where
     unfolding connection_read
     same-to = ap (λ (c : Connection). c.to.0) eq
 
-    pub connection-drives : {d : ℕ} → q.from.0 < n → q.to.0 < n → d ≡ degree m q.to.0 → d ≡ 1 → Some q.from ≡ connection_root m (connection m k)
-    unfolding connection_root drives in_range connection_read
-    connection-drives a b g e =
-        let a' : (connection m k).from < connector_count m = rw (en, same_from) at a in
-        let b' : (connection m k).to < connector_count m = rw (en, same-to) at b in
-        rw (lt-ltb _ _ a', lt-ltb _ _ b', eq-eqb _ _ (sym (g ∙ ap (degree m) same-to) ∙ e)) (ap (λ (c : Connection). Some c.from) eq)
+    pub connection-told : {b : Bool} {o : Option ConnectorId} → o ≡ then_some b q.from → b ≡ drives m (connection m k) → o ≡ connection_root m (connection m k)
+    unfolding connection_root connection_read
+    connection-told eo eb = eo ∙ rw (eb, eq) (arm (drives m (connection m k)))
+      where
+        arm : (b : Bool) → then_some b (connection_read (connection m k)).from ≡ cond b (root_at (connection m k).from) None
+        arm true = refl
+        arm false = refl
 
-    pub connection-from : n ≤ q.from.0 → None ≡ connection_root m (connection m k)
-    unfolding connection_root drives in_range
+    pub connection-from : n ≤ q.from.0 → false ≡ drives m (connection m k)
+    unfolding drives in_range
     connection-from a =
         let a' : connector_count m ≤ (connection m k).from = rw (en, same_from) at a in
         rw (le-ltb _ _ a')
 
-    module _ (a : q.from.0 < n) where
-      from-there : (connection m k).from < connector_count m
-      from-there = rw (en, same_from) at a
+    module _ (a : q.from.0 < n) {t : Bool} (et : t ≡ ltb q.to.0 n) where
+      to-is : drives m (connection m k) ≡ (t && eqb (degree m q.to.0) 1)
+      unfolding drives in_range
+      to-is =
+          let a' : (connection m k).from < connector_count m = rw (en, same_from) at a in
+          rw (lt-ltb _ _ a', et, en, same-to)
 
-      pub connection-to : n ≤ q.to.0 → None ≡ connection_root m (connection m k)
-      unfolding connection_root drives in_range
-      connection-to b =
-          let b' : connector_count m ≤ (connection m k).to = rw (en, same-to) at b in
-          rw (lt-ltb _ _ from-there, le-ltb _ _ b')
+      pub connection-to : t ≡ false → t ≡ drives m (connection m k)
+      connection-to e = rw (to-is, e)
 
-      pub connection-degree : {d : ℕ} → q.to.0 < n → d ≡ degree m q.to.0 → (d ≡ 1 → ⊥) → None ≡ connection_root m (connection m k)
-      unfolding connection_root drives in_range
-      connection-degree b g e =
-          let b' : (connection m k).to < connector_count m = rw (en, same-to) at b in
-          rw (lt-ltb _ _ from-there, lt-ltb _ _ b', ne_eqb _ _ (λ x. e (g ∙ ap (degree m) same-to ∙ x)))
+      pub connection-drives : t ≡ true → {d : ℕ} {b : Bool} → d ≡ degree m q.to.0 → b ≡ eqb d 1 → b ≡ drives m (connection m k)
+      connection-drives e g eb = rw (to-is, e, ← g, eb)
 
   module _ (i : ℕ) {q : BoundaryOutputFront} (eq : q ≡ output_read (boundary_output m i)) where
     same_source : q.source.0 ≡ (boundary_output m i).source
@@ -93,6 +92,14 @@ module _ (m : Model) {n : ℕ} (en : n ≡ connector_count m) where
         let a' : connector_count m ≤ (boundary_output m i).source = rw (en, same_source) at a in
         rw (le-ltb _ _ a')
 
+    pub output-told : {b : Bool} {o : Option ConnectorId} → o ≡ then_some b q.source → b ≡ sound m (boundary_output m i) → o ≡ output_root m (boundary_output m i)
+    unfolding output_root output_read
+    output-told eo eb = eo ∙ rw (eb, eq) (arm (sound m (boundary_output m i)))
+      where
+        arm : (b : Bool) → then_some b (output_read (boundary_output m i)).source ≡ cond b (root_at (boundary_output m i).source) None
+        arm true = refl
+        arm false = refl
+
     module _ (a : q.source.0 < n) {c : ConnectorFront} (ec : c ≡ connector_read (connector m q.source.0)) where
       near : (boundary_output m i).source < connector_count m
       near = rw (en, same_source) at a
@@ -101,24 +108,17 @@ module _ (m : Model) {n : ℕ} (en : n ≡ connector_count m) where
       unfolding connector_read
       same-dir h = h ∙ ap (λ (c : ConnectorFront). inwards c.dir) ec ∙ inwards_is (connector m q.source.0) ∙ ap (λ (x : ℕ). is_in (connector m x)) same_source
 
-      pub output-in : {t : Bool} → t ≡ inwards c.dir → t ≡ true → None ≡ output_root m (boundary_output m i)
-      unfolding output_root sound
-      output-in h e = rw (lt-ltb _ _ near, sym (same-dir h) ∙ e)
+      module _ {b t : Bool} (h : t ≡ inwards c.dir) where
+        pub output-in : b ≡ not t → t ≡ true → b ≡ sound m (boundary_output m i)
+        unfolding sound
+        output-in eb e = eb ∙ rw (lt-ltb _ _ near, sym (same-dir h), e)
 
-      module _ {w : Attrs} {t u : Bool} (h : t ≡ inwards c.dir) (d : t ≡ false) (ew : w ≡ (boundary_output m i).attrs)
-          (ek : kind_number c.value_type ≡ (connector m q.source.0).value_type) (eu : u ≡ eqb w.kind (kind_number c.value_type)) where
-        same-type : u ≡ eqb (boundary_output m i).attrs.kind (connector m (boundary_output m i).source).value_type
-        same-type = rw (ew, ek, same_source) at eu
-
-        pub output-sound : u ≡ true → Some q.source ≡ output_root m (boundary_output m i)
-        unfolding output_root sound output_read
-        output-sound e =
-            rw (lt-ltb _ _ near, sym (same-dir h) ∙ d, sym same-type ∙ e)
-            (ap (λ (o : BoundaryOutputFront). Some o.source) eq)
-
-        pub output-other : u ≡ false → None ≡ output_root m (boundary_output m i)
-        unfolding output_root sound
-        output-other e = rw (lt-ltb _ _ near, sym (same-dir h) ∙ d, sym same-type ∙ e)
+        pub output-sound : {w : Attrs} {u : Bool} → b ≡ u → t ≡ false → w ≡ (boundary_output m i).attrs
+            → kind_number c.value_type ≡ (connector m q.source.0).value_type → u ≡ eqb w.kind (kind_number c.value_type) → b ≡ sound m (boundary_output m i)
+        unfolding sound
+        output-sound {u = u} eb d ew ek eu =
+            let same-type : u ≡ eqb (boundary_output m i).attrs.kind (connector m (boundary_output m i).source).value_type = rw (ew, ek, same_source) at eu in
+            eb ∙ rw (lt-ltb _ _ near, sym (same-dir h) ∙ d, sym same-type)
 
 -- link k is a connection, or else a boundary output
 module _ (m : Model) {n : ℕ} (en : n ≡ connection_count m) (k : ℕ) where

@@ -30,11 +30,8 @@ fn connection_root(degrees: &InDegrees, k: usize) -> Option<ConnectorId>
     let image = degrees.image();
     let n = image.connector_count();
     let c = image.connection(k);
-    if (c.from.0 as usize) < n && (c.to.0 as usize) < n && degrees.degree(c.to) == 1 {
-        Some(c.from)
-    } else {
-        None
-    }
+    let drives = (c.from.0 as usize) < n && (c.to.0 as usize) < n && degrees.degree(c.to) == 1;
+    drives.then_some(c.from)
 }
 
 // The root of boundary output i.
@@ -47,11 +44,7 @@ fn output_root(image: &Image, i: usize) -> Option<ConnectorId>
         return None;
     }
     let c = image.connector(source);
-    if !c.dir.is_in() && image.boundary_output_attrs(i).has_kind(c.value_type) {
-        Some(source)
-    } else {
-        None
-    }
+    (!c.dir.is_in() && image.boundary_output_attrs(i).has_kind(c.value_type)).then_some(source)
 }
 
 // The root of link k.
