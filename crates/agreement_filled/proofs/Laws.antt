@@ -1,6 +1,5 @@
 -- Laws of stored filled records and of the image with their attributes.
-use Prim.Native.Nat.{ℕ, ◌+◌, ◌-◌, ◌*◌, ◌/◌, ◌<◌, ◌≤◌}
-use native.Mathlib.Decide.{ℕ_discrete}
+use Prim.Native.Nat.{ℕ, ◌+◌, ◌*◌, ◌<◌, ◌≤◌}
 use native.Mathlib.Omega.{arith}
 use mathlib.Core.Path.{◌≡◌, refl, sym, ◌∙◌}
 use mathlib.Core.Bool.{Bool, true, false, cond, ◌&&◌, and-false}
@@ -10,7 +9,7 @@ use Rattle.base.proofs.Options.{some-ne-none}
 use lib.Dec.{eqb, ltb}
 use mir.Val.{bool_byte}
 use lib.ListN.{length, get_or, take, length-take}
-use borrow.Author.Tests.{le-leb, lt-leb, eq-eqb, ne_eqb, ltb-true, eqb-true}
+use borrow.Author.Tests.{le-leb, lt-leb, ltb-true, eqb-true}
 use Rattle.base.specs.Lists.{steps, tally, same}
 use Rattle.base.proofs.Lists.{steps_next, tally-next, tally-le}
 use Rattle.oce_model.specs.Format.{attrs_length, longest_image}
@@ -80,17 +79,6 @@ pub image-short : (s : List ℕ) → refusal s ≡ None → length s ≤ longest
 image-short s h = (accepted s h).short
 
 -- ---- where they end
-
-module _ (at n end : ℕ) where
-  pub reach-short : end / filled_size < n → false ≡ eqb (at + filled_size * n) end
-  reach-short h = sym (ne_eqb (at + filled_size * n) end (λ e. omega arith))
-
-  pub reach-as : n ≤ end / filled_size → eqb (end - filled_size * n) at ≡ eqb (at + filled_size * n) end
-  reach-as h = arm (ℕ_discrete (end - filled_size * n) at)
-    where
-      arm : Dec (end - filled_size * n ≡ at) → eqb (end - filled_size * n) at ≡ eqb (at + filled_size * n) end
-      arm (yes e) = let q : at + filled_size * n ≡ end = omega arith in eq-eqb _ _ e ∙ sym (eq-eqb _ _ q)
-      arm (no e) = ne_eqb _ _ e ∙ sym (ne_eqb (at + filled_size * n) end (λ q. e (omega arith)))
 
 pub reach-inside : (f : List ℕ) (at n end : ℕ) {t : Bool} → t ≡ eqb (at + filled_size * n) end → t ≡ true → end ≤ length f → at + filled_size * n ≤ length f
 reach-inside f at n end e h k = let q = eqb-true (at + filled_size * n) end (sym e ∙ h) in omega arith

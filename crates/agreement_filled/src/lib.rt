@@ -73,10 +73,8 @@ fn put_records(file: &[u8], at: usize, count: usize, image: &Image, expected: &m
 fn records_reach(at: usize, count: usize, end: usize) -> bool
     ensures { result ≡ eqb (at + filled_size * count) end }
 {
-    if end / FILLED_SIZE < count {
-        return false;
-    }
-    end - FILLED_SIZE * count == at
+    let size = count.checked_mul(FILLED_SIZE);
+    size.and_then(|n| n.checked_add(at)) == Some(end)
 }
 
 // The filled image beside the image with the attributes of the filled records, which lie in the file.
