@@ -103,11 +103,8 @@ module _ (s : List ℕ) {a : Answer} (v : a ≡ summary_of s) (o : List ℕ) {o�
 
 module _ {s : List ℕ} {a : Answer} (o : ℕ) (e : List ℕ) where
   -- no room for the field
-  pub placed-short : Summarized s a → length e < summary_size → Placed s o e e a
+  pub placed-short : Summarized s a → length e < o + summary_size → Placed s o e e a
   placed-short v h = record { summarized = v; bytes = λ l. absurd (let n = output-size s v.is in omega arith) }
-
-  pub placed-far : Summarized s a → length e - summary_size < o → Placed s o e e a
-  placed-far v h = record { summarized = v; bytes = λ l. absurd (let n = output-size s v.is in omega arith) }
 
   -- the report, if it fits, then the field before it
   pub placed-there : (k : ℕ) {zs e₂ : List ℕ} → Summed s (mid_of (o + summary_size) k e) zs a → k ≡ length e - (o + summary_size) → e₂ ≡ patch (put_mid (o + summary_size) k e zs) o (summary_bytes a) → Placed s o e e₂ a

@@ -27,6 +27,7 @@ fn run_in<const SLOTS: usize>(image: &Image, report: &mut [u8]) -> Counted
     requires { (slot_count (model_of image.now) ≤ SLOTS) × (SLOTS ≤ MOST_SLOTS) }
     ensures { Summed image.now report.old report.new (Ok result) }
 {
+    // that the image was accepted, so its answer is no refusal
     let _ = image.bytes();
     let mut table = [NO_ATTRS; SLOTS];
     run(&mut Slots::of(image, &mut table), report)
@@ -124,10 +125,8 @@ pub fn write_image(image: &[u8], answer: Answer, output: &mut [u8])
 pub fn summarize_at(image: &[u8], early: &mut [u8], o: usize) -> Answer
     ensures { Placed image.now o early.old early.new result }
 {
-    if early.len() < SUMMARY_SIZE {
-        return summarize(image);
-    }
-    if early.len() - SUMMARY_SIZE < o {
+    let room = early.len().checked_sub(SUMMARY_SIZE);
+    if room.is_none_or(|room| room < o) {
         return summarize(image);
     }
     let behind = o + SUMMARY_SIZE;

@@ -82,6 +82,7 @@ fn check_over(slots: &mut Slots, filled: &mut [u8], report: &mut [u8]) -> Answer
     requires { length slots.old.image ≤ length filled.old }
     ensures { Answered slots.old.image filled.old report.old result filled.new report.new }
 {
+    // that the image was accepted, so nothing but refusal 10 can turn it away
     let _ = slots.image().bytes();
     let mut early = [0u8; EARLY];
     let counted = tally(slots, &mut early);
