@@ -104,7 +104,7 @@ impl LittleEndian for u16 {
     ghost bytes = { le_bytes 2 };
 
     fn read(s: &[u8], at: usize) -> u16 {
-        u16::from_le_bytes([s[at], s[at + 1]])
+        u16::from_le_bytes(s[at..at + Self::SIZE].try_into().unwrap())
     }
 
     fn write(self, s: &mut [u8], at: usize) {
@@ -127,7 +127,7 @@ impl LittleEndian for u32 {
     ghost bytes = { le_bytes 4 };
 
     fn read(s: &[u8], at: usize) -> u32 {
-        u32::from_le_bytes([s[at], s[at + 1], s[at + 2], s[at + 3]])
+        u32::from_le_bytes(s[at..at + Self::SIZE].try_into().unwrap())
     }
 
     fn write(self, s: &mut [u8], at: usize) {
@@ -150,16 +150,7 @@ impl LittleEndian for u64 {
     ghost bytes = { le_bytes 8 };
 
     fn read(s: &[u8], at: usize) -> u64 {
-        u64::from_le_bytes([
-            s[at],
-            s[at + 1],
-            s[at + 2],
-            s[at + 3],
-            s[at + 4],
-            s[at + 5],
-            s[at + 6],
-            s[at + 7],
-        ])
+        u64::from_le_bytes(s[at..at + Self::SIZE].try_into().unwrap())
     }
 
     fn write(self, s: &mut [u8], at: usize) {
