@@ -45,22 +45,21 @@ pub same-key : (m : Model) (x y : ℕ) {i j : ℕ} {t : Bool} → i ≡ member_i
 unfolding same_key member_key
 same-key m x y e f g = g ∙ rw (e, f) (sym (equal-same (text m (member_iri m x)) (text m (member_iri m y))))
 
-module _ {m : Model} {p : Pass} {x : ℕ} {t e : Bool} {k : Range} {q : Pass} (E : e ≡ member_external m x) (K : k ≡ member_range m x) (T : t ≡ same_key m p.first x) where
-  pub step-grow : {r : Report} → q ≡ grown p e k → t ≡ true → Stepped m p x r r q
+module _ {m : Model} {p : Pass} {x : ℕ} {t : Bool} {q : Pass} (T : t ≡ same_key m p.first x) where
+  pub step-grow : {e : Bool} {k : Range} {r : Report} → e ≡ member_external m x → k ≡ member_range m x → q ≡ grown p e k → t ≡ true → Stepped m p x r r q
   unfolding grown
-  step-grow f h =
+  step-grow {e} {k} E K f h =
       let s : same_key m p.first x ≡ true = sym T ∙ h in
       let n : q.members ≡ p.members + 1 = ap (λ (z : Pass). z.members) f in
       let z : grown p e k ≡ grown p (member_external m x) (member_range m x) = rw (E, K) in
       record { put = rw s puts-none; next = rw s (f ∙ z); more = omega arith }
 
-  pub step-open : {r₀ r : Report} → q ≡ opened x e k → t ≡ false → Puts 1 (pass_faults m p) r₀ r → Stepped m p x r₀ r q
+  pub step-open : {r₀ r : Report} → q ≡ opened x (member_external m x) (member_range m x) → t ≡ false → Puts 1 (pass_faults m p) r₀ r → Stepped m p x r₀ r q
   unfolding opened
   step-open f h o =
       let s : same_key m p.first x ≡ false = sym T ∙ h in
       let n : q.members ≡ 1 = ap (λ (z : Pass). z.members) f in
-      let z : opened x e k ≡ opened x (member_external m x) (member_range m x) = rw (E, K) in
-      record { put = rw s o; next = rw s (f ∙ z); more = omega arith }
+      record { put = rw s o; next = rw s f; more = omega arith }
 
 -- ---- the members that are taken in are members
 

@@ -18,7 +18,6 @@ use Rattle.oce_diag.proofs.Reporting.{puts-none, puts-then, puts-within, room-be
 use Rattle.crossed_bounds.specs.Ranges.{combined, take_in, take_in_all}
 use Rattle.crossed_bounds.specs.Groups.{Group, members, alone, joined}
 use Rattle.crossed_bounds.specs.CrossedBounds.{member_external, member_key, member_ranges, group_faults, groups_faults}
-use Rattle.crossed_bounds.specs.Ends.{Range}
 use Rattle.crossed_bounds.proofs.Combined.{combined-more}
 use Rattle.crossed_members.specs.Members.{member_range}
 use Rattle.crossed_domains.specs.Runs.{runs_from, runs}
@@ -82,12 +81,11 @@ no-runs m [] h = puts-none
 no-runs m (x ∷ xs) h = absurd (omega arith)
 
 module _ (m : Model) (n y : ℕ) (ys : List ℕ) where
-  pub passed-start : {p : Pass} {e : Bool} {k : Range} {r : Report} → p ≡ opened y e k → e ≡ member_external m y → k ≡ member_range m y → y < n → MembersPassed m n y ys r r p 0
+  pub passed-start : {p : Pass} {r : Report} → p ≡ opened y (member_external m y) (member_range m y) → y < n → MembersPassed m n y ys r r p 0
   unfolding opened groups_faults
-  passed-start {p} f e k h =
-      let g : p ≡ opened y (member_external m y) (member_range m y) = rw (← e, ← k) f in
-      let o : p.members ≡ 1 = ap (λ (z : Pass). z.members) f in
-      let i : p.first ≡ y = ap (λ (z : Pass). z.first) f in
+  passed-start {p} g h =
+      let o : p.members ≡ 1 = ap (λ (z : Pass). z.members) g in
+      let i : p.first ≡ y = ap (λ (z : Pass). z.first) g in
       record {
         group = alone y;
         done = [];

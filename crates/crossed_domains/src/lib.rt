@@ -8,8 +8,8 @@ ghost use Rattle.numbers.specs.Bytes.{short_range};
 ghost use Rattle.oce_model.specs.Format.{most_connectors, most_boundary_inputs};
 ghost use Rattle.oce_model.specs.Model.{model_of};
 ghost use Rattle.oce_diag.specs.Reporting.{Room, Puts};
-ghost use Rattle.crossed_bounds.specs.CrossedBounds.{member_key, groups, groups_faults};
-ghost use Rattle.crossed_members.specs.Members.{member_count, is_member};
+ghost use Rattle.crossed_bounds.specs.CrossedBounds.{member_external, member_key, groups, groups_faults};
+ghost use Rattle.crossed_members.specs.Members.{member_count, member_range, is_member};
 ghost use Rattle.crossed_domains.specs.Runs.{runs};
 ghost use Rattle.crossed_domains.specs.Pass.{opened, grown, is_reported, pass_faults, same_key, AllMembers, Stepped};
 
@@ -45,16 +45,16 @@ pub struct Pass {
 // ---- the open group
 
 impl Pass {
-    // Of one member.
-    #[tactic(auto, unfolding(crate::specs::Pass::opened))]
-    fn open(x: usize, external: bool, range: Range) -> Pass
-        ensures { result ≡ opened x external range }
+    // Of member x alone.
+    fn of(externals: &Externals, x: usize) -> Pass
+        requires { is_member (model_of externals.now) x }
+        ensures { result ≡ opened x (member_external (model_of externals.now) x) (member_range (model_of externals.now) x) }
     {
         Pass {
             first: x,
             members: 1,
-            external,
-            kept: uncrossed(range),
+            external: member_external(externals, x),
+            kept: uncrossed(member_range(externals.image(), x)),
         }
     }
 
@@ -117,13 +117,11 @@ fn step(externals: &Externals, p: Pass, x: usize, report: &mut Report) -> Pass
     ensures { Stepped (model_of externals.now) p x report.old report.new result }
 {
     let image = externals.image();
-    let external = member_external(externals, x);
-    let range = member_range(image, x);
     if same_key(image, p.first, x) {
-        return p.grow(external, range);
+        return p.grow(member_external(externals, x), member_range(image, x));
     }
     p.close(image, report);
-    Pass::open(x, external, range)
+    Pass::of(externals, x)
 }
 
 // ---- all members
@@ -138,8 +136,7 @@ fn report_groups(externals: &Externals, records: &[usize], report: &mut Report)
     };
     let image = externals.image();
     let x = *first;
-    let external = member_external(externals, x);
-    let mut p = Pass::open(x, external, member_range(image, x));
+    let mut p = Pass::of(externals, x);
     for y in rest {
         p = step(externals, p, *y, report);
     }

@@ -1,8 +1,7 @@
 -- The pass over the members behind the first.
 use native.Mathlib.Omega.{arith}
-use Rattle.std.proofs.Common.{ap, ◌∙◌}
+use Rattle.std.proofs.Common.{ap}
 use Rattle.oce_model.specs.Model.{model_of}
-use Rattle.crossed_members.specs.Members.{member_range}
 use Rattle.oce_diag.proofs.Reporting.{puts-more}
 use Rattle.crossed_domains.specs.Pass.{pass_faults}
 use Rattle.crossed_domains.proofs.Reporting.{no-runs, passed-start, passed-turn, passed-end, passed-small, passed-room, member-first, member-next}
@@ -15,8 +14,7 @@ pub loop-y-init : goal.loop-y-init
 loop-y-init c =
     let pre = c.requires in
     let parts = c.in-Some.ensures.cases in
-    let range = c.member_range.ensures ∙ ap (λ s. member_range (model_of s) c.in-Some.first.now) c.image-image.ensures in
-    passed-start _ _ _ _ c.open-p.ensures c.member_external-external.ensures range (member-first pre.0 parts.0)
+    passed-start _ _ _ _ c.of-p.ensures (member-first pre.0 parts.0)
 
 pub step-p-requires : goal.step-p-requires
 step-p-requires c =

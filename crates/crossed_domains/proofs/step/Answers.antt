@@ -10,12 +10,11 @@ use Rattle.crossed_domains.proofs.step.Goals as goal
 
 pub returns-then-same_key : goal.returns-then-same_key
 returns-then-same_key c =
-    let range = c.member_range-range.ensures ∙ ap (λ s. member_range (model_of s) c.args.x) c.image-image.ensures in
+    let range = c.member_range.ensures ∙ ap (λ s. member_range (model_of s) c.args.x) c.image-image.ensures in
     let key = c.same_key.ensures ∙ ap (λ s. same_key (model_of s) c.args.p.first c.args.x) c.image-image.ensures in
-    step-grow c.member_external-external.ensures range key c.grow.ensures c.if-same_key.true
+    step-grow key c.member_external.ensures range c.grow.ensures c.if-same_key.true
 
 pub returns : goal.returns
 returns c =
-    let range = c.member_range-range.ensures ∙ ap (λ s. member_range (model_of s) c.args.x) c.image-image.ensures in
     let key = c.same_key.ensures ∙ ap (λ s. same_key (model_of s) c.args.p.first c.args.x) c.image-image.ensures in
-    step-open c.member_external-external.ensures range key c.open.ensures c.if-same_key.false (puts-more c.close.ensures (omega arith) (ap (λ s. pass_faults (model_of s) c.args.p) c.image-image.ensures))
+    step-open key c.of.ensures c.if-same_key.false (puts-more c.close.ensures (omega arith) (ap (λ s. pass_faults (model_of s) c.args.p) c.image-image.ensures))
