@@ -1,28 +1,26 @@
 -- Laws of slots, by value.
-use Prim.Native.Nat.{ℕ, zero, suc, ◌+◌, ◌*◌, ◌%◌, ◌^◌, ◌≤◌, ◌<◌}
+use Prim.Native.Nat.{ℕ, zero, suc, ◌+◌, ◌*◌, ◌/◌, ◌%◌, ◌^◌, ◌≤◌, ◌<◌}
 use native.Mathlib.Numerals.{add-one}
-use native.Mathlib.Nat.{zero-div}
+use native.Mathlib.Nat.{zero-div, zero-mul}
 use native.Mathlib.Omega.{arith}
 use mathlib.Core.Path.{◌≡◌, refl, sym, ◌∙◌}
 use mathlib.Core.Bool.{Bool, true, false, cond}
-use mathlib.Core.List.{[]}
+use mathlib.Core.List.{List, [], map}
 use Rattle.std.specs.Prelude.{Option, None}
 use Rattle.std.specs.Bool.{then_some}
-use lib.ListN.{length, get_or, get_or-eq_default, set, take}
+use Rattle.std.specs.Int.Bits.{bit_or}
+use Rattle.std.proofs.lemmas.Nat.{or_disjoint}
+use Rattle.std.proofs.lemmas.Nat.Bits.{and_pow}
+use lib.ListN.{length, get_or, get_or-eq_default, get_or-map, length-map, set, take}
 use lib.Seq.{take-suc, take-suc-set, take_all}
 use lib.Dec.{eqb}
-use mir.Syntax.{w8}
-use mir.Val.{Fits}
+use borrow.Author.Tests.{eqb-false}
 use Rattle.numbers.specs.Bytes.{bit}
-use Rattle.numbers.proofs.Bits.{mark-fits}
 use Rattle.oce_model.specs.Attributes.{no_attrs, num, declared_at, declare_at, marked}
 use Rattle.oce_model.specs.declared.Attrs.{Attrs}
-use Rattle.oce_model.specs.Model.{Model, connector, boundary_output, connector_count, boundary_output_count}
 use Rattle.unify.specs.Details.{kind_of, bit_of}
-use Rattle.unify.specs.Slots.{Slots, slots_of, slot, value, put}
+use Rattle.unify.specs.Slots.{Slots, slot, value, put}
 use Rattle.unify.specs.declared.Detail.{Detail}
-use Rattle.unify.proofs.Slots.{slot-connector, slot-out, slots_length}
-use Rattle.unify_slots.specs.Slots.{slot_count}
 
 -- a bit's weight within a byte
 weigh : (p : ℕ) → p < 6 → 1 * 2 ^ p % 256 ≡ 2 ^ p
@@ -33,6 +31,14 @@ weigh (suc (suc (suc zero))) h = refl
 weigh (suc (suc (suc (suc zero)))) h = refl
 weigh (suc (suc (suc (suc (suc zero))))) h = refl
 weigh (suc (suc (suc (suc (suc (suc p)))))) h = absurd (omega arith)
+
+-- a mark that isn't set is added
+or-mark : (m p : ℕ) → bit m p ≡ false → bit_or m (2 ^ p) ≡ m + 2 ^ p
+unfolding bit
+or-mark m p h =
+    let n = eqb-false (m / 2 ^ p % 2) 1 h in
+    let e : m / 2 ^ p % 2 ≡ 0 = omega arith in
+    or_disjoint m (2 ^ p) (and_pow m p ∙ rw (e, zero-mul (2 ^ p)))
 
 -- ---- no slot
 
@@ -82,33 +88,17 @@ module _ (d : Detail) (a : Attrs) {k : ℕ} {t : Bool} (ek : k ≡ kind_of d) (e
     unfolding put declared_at
     put-marked v t = rw (kind-so, bit-so, t)
 
-    pub put-new : (v : ℕ) → r ≡ false → p < 6 → record { kind = a.kind; marks = a.marks + 1 * 2 ^ p % 256; nums = set a.nums p v } ≡ put d v a
+    pub put-new : (v : ℕ) → r ≡ false → p < 6 → record { kind = a.kind; marks = bit_or a.marks (1 * 2 ^ p % 256); nums = set a.nums p v } ≡ put d v a
     unfolding put declared_at declare_at
-    put-new v f l = rw (kind-so, bit-so, f, ← ep, weigh p l)
+    put-new v f l = rw (kind-so, bit-so, f, ← ep, weigh p l, or-mark a.marks p (sym er ∙ f))
 
--- a mark that isn't set can be added
-pub marks-fit : (m p : ℕ) {r : Bool} → m < 256 → p < 6 → r ≡ bit m p → r ≡ false → Fits w8 (m + 1 * 2 ^ p % 256)
-marks-fit m p l h er e = record { fits = rw (weigh p h) (mark-fits 8 m p l (omega arith) (sym er ∙ e)) }
+-- ---- a loop that reads the attributes of all connectors, or of all boundary outputs
 
--- ---- the loops that read them: the connectors', then the boundary outputs'
+module _ {X : Type 0} (attrs : X → Attrs) (xs : List X) (l : Slots) (j : ℕ) (v : take j l ≡ take j (map attrs xs)) where
+  pub load-next : (none : X) {a : Attrs} → a ≡ attrs (get_or xs j none) → j < length l → j < length xs → take (j + 1) (set l j a) ≡ take (j + 1) (map attrs xs)
+  load-next none {a} e h k =
+      let k' : j < length (map attrs xs) = rw length-map k in
+      rw (add-one j, take-suc-set l j a h, take-suc (map attrs xs) j (attrs none) k', v, e ∙ sym (get_or-map attrs xs j none))
 
-module _ (m : Model) (l : Slots) (j : ℕ) (v : take j l ≡ take j (slots_of m)) (e : slot_count m ≤ length l) where
-  load-next : {a : Attrs} → j < slot_count m → a ≡ slot (slots_of m) j → take (j + 1) (set l j a) ≡ take (j + 1) (slots_of m)
-  unfolding slot
-  load-next {a} h ea =
-      let h' : j < length (slots_of m) = omega (arith, slots_length m) in
-      rw (add-one j, take-suc-set l j a (omega arith), take-suc (slots_of m) j no_attrs h', v, ea)
-
-  pub load-connector : {a : Attrs} → a ≡ (connector m j).attrs → j < connector_count m → take (j + 1) (set l j a) ≡ take (j + 1) (slots_of m)
-  load-connector ea h = load-next (omega arith) (ea ∙ sym (slot-connector m j h))
-
-  pub load-done : slot_count m ≡ j → take (slot_count m) l ≡ slots_of m
-  load-done h = rw h (v ∙ take_all j (slots_of m) (omega (arith, slots_length m)))
-
--- n are the connectors
-pub load-output : (m : Model) (l : Slots) (i : ℕ) {n : ℕ} {a : Attrs} → n ≡ connector_count m → take (n + i) l ≡ take (n + i) (slots_of m) → slot_count m ≤ length l
-    → a ≡ (boundary_output m i).attrs → i < boundary_output_count m → take (n + (i + 1)) (set l (n + i) a) ≡ take (n + (i + 1)) (slots_of m)
-load-output m l i {n} {a} en v e ea h =
-    let q : n + (i + 1) ≡ (n + i) + 1 = omega arith in
-    let ea' : a ≡ slot (slots_of m) (n + i) = rw en (ea ∙ sym (slot-out m i)) in
-    rw q (load-next m l (n + i) v e (omega arith) ea')
+  pub load-all : length l ≤ j → length xs ≤ j → l ≡ map attrs xs
+  load-all h k = sym (take_all j l h) ∙ v ∙ take_all j (map attrs xs) (rw length-map k)

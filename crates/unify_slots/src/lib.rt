@@ -26,8 +26,7 @@ pub fn put(a: &mut Attrs, detail: Detail, v: u64)
 {
     let p = detail.bit();
     if a.has_kind(detail.kind()) && !a.is_marked(p) {
-        let marks = a.marks;
-        a.marks = marks + (1 << p);
+        a.marks |= 1 << p;
         a.nums[p] = v;
     }
 }
@@ -62,16 +61,25 @@ pub fn slot_count(image: &Image) -> usize
     image.connector_count() + image.boundary_output_count()
 }
 
-// All slots of an accepted image, in a table with room for them.
+// All slots of an accepted image, in a table of just as many.
+fn read_slots(image: &Image, slots: &mut [Attrs])
+    requires { length slots.old ≡ slot_count (model_of image.now) }
+    ensures { slots.new ≡ slots_of (model_of image.now) }
+{
+    let (connectors, outputs) = slots.split_at_mut(image.connector_count());
+    for (j, slot) in connectors.iter_mut().enumerate() {
+        *slot = image.connector_attrs(ConnectorId(j as u32));
+    }
+    for (i, slot) in outputs.iter_mut().enumerate() {
+        *slot = image.boundary_output_attrs(i);
+    }
+}
+
+// The same in a table with room for them.
 pub fn load_slots(image: &Image, slots: &mut [Attrs])
     requires { slot_count (model_of image.now) ≤ length slots.old }
     ensures { take (slot_count (model_of image.now)) slots.new ≡ slots_of (model_of image.now) }
 {
-    let connectors = image.connector_count();
-    for j in 0..connectors {
-        slots[j] = image.connector_attrs(ConnectorId(j as u32));
-    }
-    for i in 0..image.boundary_output_count() {
-        slots[connectors + i] = image.boundary_output_attrs(i);
-    }
+    let n = slot_count(image);
+    read_slots(image, &mut slots[..n]);
 }
