@@ -65,12 +65,6 @@ impl fmt::Display for Sum {
 
 // ---- printing; that it can't be written stops nothing
 
-// A name, then the rest of a line about it.
-fn print_line<P: Print, D: fmt::Display + Drop>(to: &P, name: &[u8], rest: D) {
-    let _ = to.write_all(name);
-    let _ = to.println(rest);
-}
-
 // A refusal as it is told: its number and offset, 0 where there is none.
 #[derive(Clone, Copy)]
 struct Told(Option<Refusal>);
@@ -85,115 +79,120 @@ impl fmt::Display for Told {
     }
 }
 
-// Says how record k of a file differs.
-fn print_difference<P: Print>(to: &P, name: &[u8], k: usize, r: Record, found: Difference) {
-    match found {
-        Difference::Refusal(here) => {
-            let oracle = Told(Some(r.answer.refusal));
-            let here = Told(here);
-            print_line(
-                to,
-                name,
-                format_args!(" record {k} oracle {oracle} here {here}"),
-            );
-        }
-        Difference::Counts => {
-            print_line(
-                to,
-                name,
-                format_args!(" record {k} errors and warnings differ"),
-            );
-        }
-        Difference::Diagnostic(n) => {
-            print_line(
-                to,
-                name,
-                format_args!(" record {k} differs from diagnostic {n}"),
-            );
-        }
-        Difference::Filled => {
-            print_line(to, name, format_args!(" record {k} filled image differs"));
-        }
-    }
+// A file by its name, and where lines about it go.
+#[derive(Drop)]
+struct Named<'a, P> {
+    to: &'a P,
+    name: &'a [u8],
 }
 
-// Says why a file can't be gone through.
-fn fail<P: Print>(to: &P, name: &[u8], why: &str) -> Sum {
-    print_line(to, name, why);
-    Sum {
-        failed: 1,
-        ..Sum::default()
+impl<P: Print> Named<'_, P> {
+    // The name, then the rest of a line about it.
+    fn print_line<D: fmt::Display + Drop>(&self, rest: D) {
+        let _ = self.to.write_all(self.name);
+        let _ = self.to.println(rest);
     }
-}
 
-// ---- one image
-
-// Record k of a file.
-fn replay_record<P: Print>(to: &P, name: &[u8], file: &[u8], k: usize, r: Record) -> Sum {
-    let found = compare(file, r);
-    if let Err(difference) = found {
-        print_difference(to, name, k, r, difference);
+    // Says how record k differs.
+    fn print_difference(&self, k: usize, r: Record, found: Difference) {
+        match found {
+            Difference::Refusal(here) => {
+                let oracle = Told(Some(r.answer.refusal));
+                let here = Told(here);
+                self.print_line(format_args!(" record {k} oracle {oracle} here {here}"));
+            }
+            Difference::Counts => {
+                self.print_line(format_args!(" record {k} errors and warnings differ"));
+            }
+            Difference::Diagnostic(n) => {
+                self.print_line(format_args!(" record {k} differs from diagnostic {n}"));
+            }
+            Difference::Filled => {
+                self.print_line(format_args!(" record {k} filled image differs"));
+            }
+        }
     }
-    Sum {
-        images: 1,
-        refused: u64::from(r.answer.refusal.number != 0),
-        differ: u64::from(found.is_err()),
-        failed: 0,
+
+    // Says why it can't be gone through.
+    fn fail(&self, why: &str) -> Sum {
+        self.print_line(why);
+        Sum {
+            failed: 1,
+            ..Sum::default()
+        }
+    }
+
+    // ---- its records
+
+    // Record k.
+    fn replay_record(&self, file: &[u8], k: usize, r: Record) -> Sum {
+        let found = compare(file, r);
+        if let Err(difference) = found {
+            self.print_difference(k, r, difference);
+        }
+        Sum {
+            images: 1,
+            refused: u64::from(r.answer.refusal.number != 0),
+            differ: u64::from(found.is_err()),
+            failed: 0,
+        }
+    }
+
+    // All records, as many as the file says it has: where the last ends, and what they give. None where one doesn't
+    // fit.
+    fn replay_records(&self, file: &[u8]) -> Option<(usize, Sum)> {
+        let mut at = FIRST_RECORD;
+        let mut sum = Sum::default();
+        for k in 0..record_count(file) {
+            let r = record_at(file, at)?;
+            sum = sum.plus(self.replay_record(file, k, r));
+            at = r.end;
+        }
+        Some((at, sum))
+    }
+
+    // Its answers are wrong on purpose, by its name: it isn't summed up with the others.
+    fn is_wrong(&self) -> bool {
+        self.name.starts_with(WRONG)
+    }
+
+    // Its bytes: the records, and a line that sums them up.
+    fn replay_bytes(&self, file: &[u8]) -> Sum {
+        if !is_stored(file) {
+            return self.fail(" isn't a file of stored answers of version 1");
+        }
+        let Some((end, sum)) = self.replay_records(file) else {
+            return self.fail(" has a record that doesn't fit");
+        };
+        if end != file.len() {
+            return self.fail(" doesn't end with its last record");
+        }
+        self.print_line(format_args!(" {sum}"));
+        if self.is_wrong() {
+            return Sum::default();
+        }
+        sum
     }
 }
 
 // ---- one file
 
-// Whether a file's answers are wrong on purpose, by its name: it isn't summed up with the others.
-fn is_wrong(name: &[u8]) -> bool {
-    name.starts_with(WRONG)
-}
-
-// All records, as many as the file says it has: where the last ends, and what they give. None where one doesn't fit.
-fn replay_records<P: Print>(to: &P, name: &[u8], file: &[u8]) -> Option<(usize, Sum)> {
-    let mut at = FIRST_RECORD;
-    let mut sum = Sum::default();
-    for k in 0..record_count(file) {
-        let r = record_at(file, at)?;
-        sum = sum.plus(replay_record(to, name, file, k, r));
-        at = r.end;
-    }
-    Some((at, sum))
-}
-
-// The bytes of a file: its records, and a line that sums them up.
-fn replay_bytes<P: Print>(to: &P, name: &[u8], file: &[u8]) -> Sum {
-    if !is_stored(file) {
-        return fail(to, name, " isn't a file of stored answers of version 1");
-    }
-    let Some((end, sum)) = replay_records(to, name, file) else {
-        return fail(to, name, " has a record that doesn't fit");
-    };
-    if end != file.len() {
-        return fail(to, name, " doesn't end with its last record");
-    }
-    print_line(to, name, format_args!(" {sum}"));
-    if is_wrong(name) {
-        return Sum::default();
-    }
-    sum
-}
-
 // A file: its bytes, or why it can't be gone through.
 fn replay_file<R: Files + Print>(rt: &R, name: &[u8]) -> Sum {
+    let named = Named { to: rt, name };
     match open_read(rt, name) {
         Ok(mut from) => {
             let mut file = [0u8; LONGEST_FILE + 1];
             let n = read_full(&mut from, &mut file).length;
             if n == 0 {
-                return fail(rt, name, " is empty or can't be read");
+                return named.fail(" is empty or can't be read");
             }
             if LONGEST_FILE < n {
-                return fail(rt, name, " is too long");
+                return named.fail(" is too long");
             }
-            replay_bytes(rt, name, &file[..n])
+            named.replay_bytes(&file[..n])
         }
-        Err(_) => fail(rt, name, " can't be opened"),
+        Err(_) => named.fail(" can't be opened"),
     }
 }
 
@@ -202,7 +201,13 @@ fn replay_argument<R: Env + Files + Print>(rt: &R, i: usize) -> Option<Sum> {
     let mut name = [0u8; LONGEST_NAME];
     match rt.arg(i, &mut name) {
         Ok(n) => Some(replay_file(rt, &name[..n])),
-        Err(FillError::TooLong) => Some(fail(rt, b"a name", " is too long")),
+        Err(FillError::TooLong) => {
+            let unnamed = Named {
+                to: rt,
+                name: b"a name",
+            };
+            Some(unnamed.fail(" is too long"))
+        }
         Err(FillError::NotPresent) => None,
     }
 }
