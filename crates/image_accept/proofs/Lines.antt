@@ -18,6 +18,7 @@ use Rattle.oce_model.specs.Format.{highest_tag}
 use Rattle.oce_model.specs.Image.{field_at, field_end, fields, fields_from, first, of_tag, ord_of}
 use Rattle.oce_model.specs.Refusals.{bad_tag, tag_is_bad}
 use Rattle.oce_model.specs.declared.Field.{Field}
+use Rattle.image_accept.specs.Surveyed.{Lined}
 
 -- ---- one more field
 
@@ -92,11 +93,6 @@ first-snoc p (x ∷ l) f = rw (first-snoc p l f) (arm (p x))
     arm false = refl
 
 -- ---- each field and the one before
-
--- the fields that stand behind n with the tag prev
-unfoldable pub Lined : ℕ → ℕ → List Field → Type 0
-Lined prev n [] = Unit {0}
-Lined prev n (f ∷ l) = (f.prev ≡ prev) × (f.ord ≡ ord_of prev n f.tag) × Lined f.tag (suc f.ord) l
 
 lined-from : (k : ℕ) (s : List ℕ) (at prev n : ℕ) → Lined prev n (fields_from k s at prev n)
 unfolding Lined fields_from field_at

@@ -19,21 +19,8 @@ use Rattle.oce_model.specs.declared.Field.{Field}
 use Rattle.oce_model.proofs.Accepted.{Accepted, accepted}
 use Rattle.oce_model.proofs.Fields.{first-none, none-mem}
 use Rattle.image_sieve.specs.Faulty.{at_fault}
-use Rattle.image_accept.proofs.Lines.{Lined, ascends, lined-all, lower-none, mem-right, mem-snoc, more-here, more-not, past, tag-append, tag-none, tag-not}
-
--- how many texts are among some fields
-abbrev pub texts : List Field → ℕ
-texts l = length (of_tag text_tag l)
-
--- all of done are passed and good, and rest is left
-pub record Passing (s : List ℕ) (done rest : List Field) : Type 0 where
-  pub split : fields s ≡ done ++ rest
-  pub prev : ℕ
-  pub lined : Lined prev (length (of_tag prev done)) rest
-  pub rising : (g : Field) → Memᴰ g done → g.tag ≤ prev
-  pub few : (t : ℕ) → length (of_tag t done) ≤ most t
-  pub tags : (g : Field) → Memᴰ g done → bad_tag g ≡ false
-  pub quiet : (g : Field) → Memᴰ g done → at_fault (texts done) s g ≡ false
+use Rattle.image_accept.specs.Surveyed.{Lined, Passing, texts}
+use Rattle.image_accept.proofs.Lines.{ascends, lined-all, lower-none, mem-right, mem-snoc, more-here, more-not, past, tag-append, tag-none, tag-not}
 
 unfoldable pub passing-start : (s : List ℕ) → Passing s [] (fields s)
 passing-start s = record {
@@ -106,7 +93,7 @@ module _ {s : List ℕ} {done later : List Field} {f : Field} (v : Passing s don
   unfolding Lined
   order = v.lined.1
 
-  behind : Lined f.tag (suc f.ord) later
+  pub behind : Lined f.tag (suc f.ord) later
   unfolding Lined
   behind = v.lined.2
 

@@ -22,24 +22,10 @@ use Rattle.image_accept.specs.Layout.{Tabled, offsets_of, section_of}
 use Rattle.image_accept.specs.Passing.{Begun, listed, none, noted}
 use Rattle.image_accept.specs.declared.Section.{Section}
 use Rattle.image_accept.proofs.Lines.{first-snoc, more-here, more-not, tag-none}
-use Rattle.image_accept.proofs.Passes.{Passing, count}
+use Rattle.image_accept.specs.Surveyed.{Listed, Passing, Told, offsets, reaches, told}
+use Rattle.image_accept.proofs.Passes.{count}
 
 -- ---- sections
-
--- a field has a tag from t on
-abbrev pub reaches : ℕ → Field → Bool
-reaches t f = leb t f.tag
-
--- the section of a tag, as the fields passed tell it
-abbrev pub told : List ℕ → List Field → ℕ → Section
-told s done t = record { start = or_end (first (reaches t) done) (length s); count = length (of_tag t done) }
-
--- the sections by their tags, 0 aside, which none has
-pub record Told (s : List ℕ) (done rest : List Field) (sections : List Section) : Type 0 where
-  pub passing : Passing s done rest
-  pub long : length sections ≡ highest_tag + 1
-  pub each : (t : ℕ) → 1 ≤ t → t ≤ highest_tag → get_or sections t none ≡ told s done t
-  pub reached : (t : ℕ) → 1 ≤ t → t ≤ passing.prev → (x : ℕ) × (first (reaches t) done ≡ Some x)
 
 not-reached : (t : ℕ) (l : List Field) → ((g : Field) → Memᴰ g l → g.tag < t) → first (reaches t) l ≡ None
 not-reached t l h = first-none (reaches t) l (λ g m. lt-leb t g.tag (h g m))
@@ -99,14 +85,6 @@ unfolding section_of start_of
 told-end v t one h = v.each t one h
 
 -- ---- tables
-
-abbrev pub offsets : ℕ → List Field → List ℕ
-offsets t l = map (λ (f : Field). f.at) (of_tag t l)
-
--- a table begins with the offsets of the fields passed
-pub record Listed (t : ℕ) (done : List Field) (table₀ table : List ℕ) : Type 0 where
-  pub is : table ≡ starts_with (offsets t done) table₀
-  pub long : length table ≡ length table₀
 
 pub listed-start : (t : ℕ) (table : List ℕ) → Listed t [] table table
 listed-start t table = record { is = sym (rw (tag-none t) (starts_with-none table)); long = refl }

@@ -1,7 +1,7 @@
 // Every byte string is accepted, with its layout, or refused with the first refusal that applies.
 #![tactic(auto)]
 
-ghost use Rattle.std.specs.Prelude.{◌≡◌, ◌&&◌, ◌||◌, eqb, ◌+◌, ◌*◌, ◌<◌, ◌≤◌, ◌^◌, length, Bool, None, IfSome};
+ghost use Rattle.std.specs.Prelude.{◌≡◌, ◌&&◌, ◌||◌, eqb, ◌+◌, ◌*◌, ◌<◌, ◌≤◌, ◌^◌, length, Bool, None, IfSome, IfNone, ◌≢◌};
 ghost use Rattle.std.specs.Result.{result_ok};
 ghost use Rattle.oce_model.specs.Format.{text_tag, block_tag, highest_tag, shortest_image, longest_image};
 ghost use Rattle.oce_model.specs.Image.{fields, first, of_tag};
@@ -11,6 +11,7 @@ ghost use Rattle.image_sieve.specs.Faulty.{at_fault};
 ghost use Rattle.oce_model.specs.Refusals.{bad_size, bad_tag, refusal, refusals_from};
 ghost use Rattle.image_accept.specs.Layout.{acceptance, refused, refused_by, TabledIfAccepted};
 ghost use Rattle.image_accept.specs.Passing.{Begun, listed};
+ghost use Rattle.image_accept.specs.Surveyed.{Passed};
 
 use image_contents::{bad_contents, bad_reference};
 use image_faults::{bad_length, bad_tag, bad_text, too_many};
@@ -19,7 +20,7 @@ use image_sieve::Sieve;
 use numbers::{LittleEndian, int_of_bits};
 use oce_model::{
     BLOCK_TAG, BOUNDARY_INPUT_TAG, BOUNDARY_OUTPUT_TAG, CONNECTION_TAG, CONNECTOR_TAG,
-    EXTERNAL_INPUT_TAG, Field, HEAD_MAX_AT, HEAD_MIN_AT, LONGEST_IMAGE, MOST_BLOCKS, MOST_TEXTS,
+    EXTERNAL_INPUT_TAG, Field, HEAD_TAG, HEAD_MAX_AT, HEAD_MIN_AT, LONGEST_IMAGE, MOST_BLOCKS, MOST_TEXTS,
     Refusal, SHORTEST_IMAGE, TAG_COUNT, TEXT_TAG,
 };
 
@@ -108,6 +109,60 @@ fn is_refused(sieve: &Sieve) -> bool
 }
 
 impl GoodSize<'_> {
+    // Passes the fields that come next and have a tag, up to the first that is at fault under one of refusals 2 to 8.
+    // The tag is a constant, so that each tag has a loop with its own tests alone.
+    #[inline(always)]
+    fn pass<const TAG: usize>(
+        &self,
+        fields: &mut Fields,
+        sections: &mut [Section; TAG_COUNT],
+        tables: &mut Tables,
+        end: &mut usize,
+    ) -> Option<()>
+        requires passed { Passed TAG self.now.bytes.now fields.old end.old sections.old tables.old.texts tables.old.blocks }
+        ensures passed { IfSome result (λ u. Passed (TAG + 1) self.now.bytes.now fields.new end.new sections.new tables.new.texts tables.new.blocks) }
+        ensures refused { IfNone result (refusal self.now.bytes.now ≢ None) }
+    {
+        while let Some(f) = fields.next_of(TAG) {
+            let sieve = Sieve {
+                texts: sections[TEXT_TAG].count,
+                bytes: self.bytes,
+                field: f,
+            };
+            if is_refused(&sieve) {
+                return None;
+            }
+            note(sections, f);
+            list(&mut tables.texts, TEXT_TAG, f);
+            list(&mut tables.blocks, BLOCK_TAG, f);
+            *end = end_of(f);
+        }
+        Some(())
+    }
+
+    // Passes the fields of all tags, as tags rise.
+    #[inline(always)]
+    fn pass_all(
+        &self,
+        fields: &mut Fields,
+        sections: &mut [Section; TAG_COUNT],
+        tables: &mut Tables,
+        end: &mut usize,
+    ) -> Option<()>
+        requires passed { Passed HEAD_TAG self.now.bytes.now fields.old end.old sections.old tables.old.texts tables.old.blocks }
+        ensures passed { IfSome result (λ u. Passed TAG_COUNT self.now.bytes.now fields.new end.new sections.new tables.new.texts tables.new.blocks) }
+        ensures refused { IfNone result (refusal self.now.bytes.now ≢ None) }
+    {
+        self.pass::<HEAD_TAG>(fields, sections, tables, end)?;
+        self.pass::<TEXT_TAG>(fields, sections, tables, end)?;
+        self.pass::<BLOCK_TAG>(fields, sections, tables, end)?;
+        self.pass::<CONNECTOR_TAG>(fields, sections, tables, end)?;
+        self.pass::<CONNECTION_TAG>(fields, sections, tables, end)?;
+        self.pass::<EXTERNAL_INPUT_TAG>(fields, sections, tables, end)?;
+        self.pass::<BOUNDARY_INPUT_TAG>(fields, sections, tables, end)?;
+        self.pass::<BOUNDARY_OUTPUT_TAG>(fields, sections, tables, end)
+    }
+
     // Passes the fields once, up to the first that is at fault under one of refusals 2 to 8: the layout of an image
     // that is accepted, with the offsets of its texts and blocks in the tables.
     fn survey(&self, tables: &mut Tables) -> Option<Layout>
@@ -121,20 +176,12 @@ impl GoodSize<'_> {
             count: 0,
         };
         let mut sections = [behind_all; TAG_COUNT];
+        let mut fields = Fields::of(s);
         let mut end = 0;
-        for f in Fields::of(s) {
-            let sieve = Sieve {
-                texts: sections[TEXT_TAG].count,
-                bytes: s,
-                field: f,
-            };
-            if is_refused(&sieve) {
-                return None;
-            }
-            note(&mut sections, f);
-            list(&mut tables.texts, TEXT_TAG, f);
-            list(&mut tables.blocks, BLOCK_TAG, f);
-            end = end_of(f);
+        self.pass_all(&mut fields, &mut sections, tables, &mut end)?;
+        // one that is left has a bad tag
+        if fields.next().is_some() {
+            return None;
         }
         if end < s.len() {
             return None;

@@ -1,5 +1,5 @@
 -- The fields of an image, one after the other, as a loop goes through them. FORMAT 2.
-use Rattle.std.specs.Prelude.{ℕ, ◌+◌, ◌≤◌, ◌≡◌, Bool, cond, List, [], ◌∷◌, leb, ltb, length, Option, None, Some, Result, Ok, Err}
+use Rattle.std.specs.Prelude.{ℕ, ◌+◌, ◌≤◌, ◌≡◌, Bool, cond, List, [], ◌∷◌, ◌≢◌, leb, ltb, length, Option, None, Some, Result, Ok, Err}
 use Rattle.numbers.specs.Bytes.{byte, le16}
 use Rattle.oce_model.specs.Format.{leading_bytes, field_length_at}
 use Rattle.oce_model.specs.Image.{field_end, ord_of, fields, fields_from, stop, first}
@@ -30,6 +30,11 @@ end_of f = f.at + leading_bytes + f.len
 -- the fields from an offset on, behind n fields with the tag prev
 unfoldable pub rest_at : List ℕ → ℕ → ℕ → ℕ → List Field
 rest_at s at prev n = fields_from (length s) s at prev n
+
+-- none of these fields stands first with the tag t
+abbrev pub NoneFirst : ℕ → List Field → Type 0
+NoneFirst t [] = Unit {0}
+NoneFirst t (f ∷ fs) = f.tag ≢ t
 
 -- ---- what is found
 

@@ -1,7 +1,8 @@
 // The fields of an image as an iterator.
-ghost use Rattle.std.specs.Prelude.{◌≡◌};
+ghost use Rattle.std.specs.Prelude.{◌≡◌, ◌∷◌, IfSome, None};
 ghost use Rattle.std.specs.Iterator.{YieldsFirst, item_count};
 ghost use Rattle.oce_model.specs.Image.{fields};
+ghost use Rattle.image_framing.specs.Walk.{NoneFirst};
 
 use crate::{end_of, field_of, whole_at};
 use oce_model::Field;
@@ -39,6 +40,17 @@ impl<'a> Fields<'a> {
             at: 0,
             prev: 0,
             before: 0,
+        }
+    }
+
+    // The next field, if it has this tag; one with another tag stays the next.
+    pub fn next_of(&mut self, tag: usize) -> Option<Field>
+        ensures given { IfSome result (λ f. (self.old ≡ f ∷ self.new) × (f.tag ≡ tag)) }
+        ensures left { result ≡ None → (self.new ≡ self.old) × NoneFirst tag self.old }
+    {
+        match whole_at(self.bytes, self.at) {
+            Some(l) if usize::from(l.tag) == tag => self.next(),
+            _ => None,
         }
     }
 }
