@@ -5,7 +5,7 @@ use Prim.Native.Nat.{ℕ, ◌+◌, ◌-◌, ◌≤◌, ◌<◌}
 use native.Mathlib.Nat.{add-zero, zero-add}
 use native.Mathlib.Omega.{arith}
 use lib.ListN.{length, get_or, take, drop, length-append, length-take, length-drop, take-append-drop, get_or-append}
-use lib.Seq.{length-take-le, take_at, take-take, take-append-le, drop-append_seam, drop-append-add, drop-drop, get_or-append-add, get_or-take, get_or-drop}
+use lib.Seq.{paste, length-take-le, take-length, take_at, take-take, take-append-le, drop-append_seam, drop-append-add, drop-drop, get_or-append-add, get_or-take, get_or-drop}
 use Rattle.base.specs.Buffers.{patch, starts_with}
 
 -- ---- patch
@@ -13,6 +13,11 @@ use Rattle.base.specs.Buffers.{patch, starts_with}
 pub patch-none : (s : List ℕ) (at : ℕ) → patch s at [] ≡ s
 unfolding patch
 patch-none s at = rw (append-nil (take at s), add-zero at) (take-append-drop at s)
+
+-- the list library's name for it
+pub patch-paste : (s : List ℕ) (at : ℕ) (bs : List ℕ) → patch s at bs ≡ paste s at bs (length bs)
+unfolding patch
+patch-paste s at bs = rw (take-length bs)
 
 module _ (s : List ℕ) (at : ℕ) (bs : List ℕ) (fits : at + length bs ≤ length s) where
   pub patch-length : length (patch s at bs) ≡ length s

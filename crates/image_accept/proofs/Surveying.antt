@@ -32,7 +32,7 @@ use Rattle.image_sieve.specs.Faulty.{at_fault}
 use Rattle.image_accept.specs.Layout.{TabledIfAccepted, acceptance, accepts, layout_of, section_of}
 use Rattle.image_accept.specs.Passing.{Begun, listed, none}
 use Rattle.image_accept.specs.declared.Section.{Section}
-use Rattle.image_accept.specs.Surveyed.{FromTag, Lined, Listed, Passed, Surveying, Told, texts, told}
+use Rattle.image_accept.specs.Surveyed.{FromTag, Lined, Passed, Surveying, Told, texts, told}
 use Rattle.image_accept.proofs.Lines.{ascends, is_tag}
 use Rattle.image_accept.proofs.Passes.{accepted-good, all-done, among, before, behind, count, fault-refused, good-tag, most-small, not-many, passed-accepted, passing-next, passing-prev, passing-start}
 use Rattle.image_accept.proofs.Sections.{listed-end, listed-next, listed-start, told-end, told-next}

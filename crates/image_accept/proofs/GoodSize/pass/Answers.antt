@@ -1,6 +1,6 @@
 -- `pass` meets its contract: each field that is passed is told, one at fault is no accepted image's, and at the end the next has another tag.
 use Rattle.oce_model.specs.Format.{text_tag, block_tag}
-use Rattle.image_accept.proofs.Surveying.{passed-next, passed-on, survey-fits, survey-lists, survey-notes, survey-refused}
+use Rattle.image_accept.proofs.Surveying.{passed-next, survey-fits, survey-lists, survey-notes, survey-refused}
 use Rattle.image_accept.proofs.GoodSize.pass.Goals as goal
 
 pub invariant_of-sieve-clause-inside : goal.invariant_of-sieve-clause-inside

@@ -1,7 +1,5 @@
 -- `Fields::next_of` meets its contract: by whether a whole field stands there, and its tag.
 use mathlib.Core.Path.{refl, sym, ◌∙◌}
-use native.Mathlib.Omega.{arith}
-use borrow.Author.Rules.{rules}
 use Rattle.image_framing.proofs.Rests.{rest-none, rest-next, first-has, not-first, not-none}
 use Rattle.image_framing.proofs.fields.Fields.next_of.Goals as goal
 
