@@ -29,9 +29,9 @@ const CONNECTOR_BLOCK: u8 = 5;
 
 // ---- blocks
 
-// The Rust's `check_block_port_ids`, of the ids of a block's inputs or of its outputs, in a model of n
-// connectors.
-fn port_faults(ids: &Ids, n: usize, subject: Subject, detail: u8, report: &mut Report)
+// Each port in turn.
+#[inline(always)]
+fn put_ports(ids: &Ids, n: usize, subject: Subject, detail: u8, report: &mut Report)
     requires { Room most_ports report.old }
     ensures { Puts most_ports (each (length ids.now) (port_fault n subject detail ids.now)) report.old report.new }
 {
@@ -39,6 +39,22 @@ fn port_faults(ids: &Ids, n: usize, subject: Subject, detail: u8, report: &mut R
         let outside = error(MalformedDocument, RULE, detail, subject, j as u32);
         report.put_if(ids.id(j) as usize >= n, outside);
     }
+}
+
+// The Rust's `check_block_port_ids`, of the ids of a block's inputs or of its outputs, in a model of n
+// connectors. There may be many: they are put into a report of their own over the same bytes, which is counted in
+// registers.
+fn port_faults(ids: &Ids, n: usize, subject: Subject, detail: u8, report: &mut Report)
+    requires { Room most_ports report.old }
+    ensures { Puts most_ports (each (length ids.now) (port_fault n subject detail ids.now)) report.old report.new }
+{
+    let mut own = Report {
+        bytes: &mut *report.bytes,
+        counted: report.counted,
+    };
+    put_ports(ids, n, subject, detail, &mut own);
+    let Report { counted, bytes: _ } = own;
+    report.counted = counted;
 }
 
 // What rule 1 reports of block i: its id, then its ports.

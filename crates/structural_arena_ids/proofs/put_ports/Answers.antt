@@ -1,8 +1,8 @@
--- `structural_arena_ids::port_faults` meets its contract: a port a turn.
+-- `structural_arena_ids::put_ports` meets its contract: a port a turn.
 use Rattle.std.proofs.Common.{rules}
 use Rattle.oce_diag.proofs.Reporting.{turns-start, turns-next}
 use Rattle.structural_arena_ids.proofs.Laws.{port-put}
-use Rattle.structural_arena_ids.proofs.port_faults.Goals as goal
+use Rattle.structural_arena_ids.proofs.put_ports.Goals as goal
 
 pub loop-j-init : goal.loop-j-init
 loop-j-init c = search (turns-start, rules)
