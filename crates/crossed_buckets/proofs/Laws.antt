@@ -1,5 +1,5 @@
 -- What the functions over one member return, and what their loops leave.
-use Prim.Native.Nat.{ℕ, ◌+◌, ◌-◌, ◌%◌, ◌≤◌, ◌<◌}
+use Prim.Native.Nat.{ℕ, ◌+◌, ◌-◌, ◌*◌, ◌%◌, ◌≤◌, ◌<◌, ◌^◌}
 use native.Mathlib.Decide.{ℕ_discrete}
 use native.Mathlib.Numerals.{add-one}
 use native.Mathlib.Omega.{arith}
@@ -13,7 +13,8 @@ use lib.Seq.{take-suc-set, get_or-set_same, get_or-set_other}
 use borrow.Author.Tests.{eq-eqb, ne_eqb}
 use Rattle.base.specs.Lists.{each, tab, steps, only}
 use Rattle.base.proofs.Lists.{each_next, each_same, length-tab, get_or-tab, steps_next}
-use Rattle.numbers.specs.Bytes.{le64}
+use Rattle.numbers.specs.Bytes.{byte, le_at, le64}
+use Rattle.numbers.proofs.Bytes.{le-add, le-past}
 use Rattle.oce_model.specs.Model.{Model, text}
 use Rattle.crossed_bounds.specs.CrossedBounds.{member_iri, member_external, member_key}
 use Rattle.crossed_members.specs.Members.{member_joins}
@@ -21,6 +22,20 @@ use Rattle.crossed_buckets.specs.Buckets.{bucket_count, bucket_of, crowded, note
 use Rattle.crossed_buckets.specs.declared.Known.{Known}
 use Rattle.crossed_buckets.specs.declared.Known.TheVariants.{Empty}
 use Rattle.crossed_buckets.specs.declared.Member.{Member}
+
+-- ---- the number of a few bytes
+
+module _ (s : List ℕ) (at : ℕ) {low : ℕ} where
+  -- bytes past the end count as 0
+  pub le-lower : (v w : ℕ) → low ≡ le_at v s at → length s ≤ at + v → low ≡ le_at (v + w) s at
+  le-lower v w e h = e ∙ rw (le-add v w s at, ← (le-past w s (at + v) h)) (omega arith)
+
+  pub le-joined : (v w : ℕ) {high : ℕ} → low ≡ le_at v s at → high ≡ le_at w s (at + v) → low + 256 ^ v * high ≡ le_at (v + w) s at
+  le-joined v w e f = rw (e, f, le-add v w s at)
+
+  pub le-one : low ≡ byte s at → low ≡ le_at 1 s at
+  unfolding le_at
+  le-one e = e ∙ omega arith
 
 -- ---- one member
 

@@ -4,6 +4,7 @@
 
 ghost use Rattle.std.specs.Prelude.{◌≡◌, ◌+◌, ◌%◌, ◌<◌, ◌≤◌, length};
 ghost use Rattle.base.specs.Lists.{tab};
+ghost use Rattle.numbers.specs.Bytes.{le32, le64};
 ghost use Rattle.oce_model.specs.Model.{model_of};
 ghost use Rattle.crossed_members.specs.Members.{member_count, is_member};
 ghost use Rattle.crossed_buckets.specs.Buckets.{bucket_count, bucket_of, is_in_crowd, crowded, noted, collected, crowded_members, member_value, Noted};
@@ -18,6 +19,11 @@ const BUCKETS: usize = 1021;
 
 // How many bytes tell the bucket of a text.
 const TELLING_BYTES: usize = 8;
+
+// How many numbers two bytes can hold, and how many four can.
+const SHORT_RANGE: u32 = 65536;
+
+const WORD_RANGE: u64 = 4294967296;
 
 // What is known of a bucket's members.
 #[derive(Clone, Copy)]
@@ -51,13 +57,45 @@ fn narrow(h: u64) -> u16
     (h % BUCKETS as u64) as u16
 }
 
+// The number of the bytes from an index on, of which fewer than four are left.
+fn read_few(t: &[u8], at: usize) -> u32
+    requires { (at ≤ length t.now) × (length t.now < at + 4) }
+    ensures { result ≡ le32 t.now at }
+{
+    let left = t.len() - at;
+    if left == 0 {
+        0
+    } else if left == 1 {
+        u32::from(u8::read(t, at))
+    } else {
+        let low = u32::from(u16::read(t, at));
+        if left == 2 {
+            low
+        } else {
+            low + SHORT_RANGE * u32::from(u8::read(t, at + 2))
+        }
+    }
+}
+
+// The number of a byte string of fewer than eight bytes.
+fn read_short(t: &[u8]) -> u64
+    requires { length t.now < 8 }
+    ensures { result ≡ le64 t.now 0 }
+{
+    if t.len() < 4 {
+        u64::from(read_few(t, 0))
+    } else {
+        u64::from(u32::read(t, 0)) + WORD_RANGE * u64::from(read_few(t, 4))
+    }
+}
+
 // The bucket of a byte string, by its last eight bytes or all of fewer.
 fn bucket_of(t: &[u8]) -> u16
     ensures { (result ≡ bucket_of t.now) × (result < bucket_count) }
 {
     let n = t.len();
     if n < TELLING_BYTES {
-        narrow(u64::read_padded(t, 0))
+        narrow(read_short(t))
     } else {
         narrow(u64::read(t, n - TELLING_BYTES))
     }
