@@ -136,7 +136,7 @@ module _ (m : Model) where
           ∙ sym (rw (le-ltb x c o, get_or-eq_default m.boundary_inputs no_boundary_input p))
 
 module _ (s : List ℕ) {members : List Member} (e : members ≡ tab (member_count (model_of s)) (member_value (model_of s))) where
-  key-is : key_of s members ≡ member_key (model_of s)
+  pub key-is : key_of s members ≡ member_key (model_of s)
   unfolding member_key
   key-is = fun_ext (λ x. rw e (ap (text (model_of s)) (iri-is (model_of s) x)))
 

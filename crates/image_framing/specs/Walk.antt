@@ -9,9 +9,9 @@ use Rattle.image_framing.specs.declared.Leading.{Leading}
 
 -- ---- one field
 
--- what stands at an offset: a field's tag and length
+-- what stands at an offset: a field's tag and length, and whether all of it lies in the image
 abbrev pub leading_at : List ℕ → ℕ → Leading
-leading_at s at = record { tag = byte s at; len = le16 s (at + field_length_at) }
+leading_at s at = record { tag = byte s at; len = le16 s (at + field_length_at); whole = leb (field_end s at) (length s) }
 
 -- the same, where all of the field lies in the image
 abbrev pub whole_at : List ℕ → ℕ → Option Leading

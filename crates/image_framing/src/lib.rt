@@ -26,23 +26,31 @@ fn ord_of(prev: usize, n: usize, t: usize) -> usize
     if prev == t { n } else { 0 }
 }
 
-// The tag and the length of the contents that stand at an offset.
+// What stands at an offset: a tag, the length of the contents, and whether all of it lies in the image. Bytes
+// past the end count as 0.
 #[derive(Clone, Copy)]
 pub struct Leading {
     pub tag: u8,
     pub len: u16,
+    pub whole: bool,
 }
 
-// Reads what stands at an offset. Bytes past the end count as 0.
+// Reads what stands at an offset.
 pub fn leading_at(s: &[u8], at: usize) -> Leading
     ensures { result ≡ leading_at s.now at }
 {
     if s.len() <= at {
-        return Leading { tag: 0, len: 0 };
+        return Leading {
+            tag: 0,
+            len: 0,
+            whole: false,
+        };
     }
+    let len = u16::read_padded(s, at + FIELD_LENGTH_AT);
     Leading {
         tag: s[at],
-        len: u16::read_padded(s, at + FIELD_LENGTH_AT),
+        len,
+        whole: LEADING_BYTES + usize::from(len) <= s.len() - at,
     }
 }
 
@@ -52,7 +60,7 @@ pub fn whole_at(s: &[u8], at: usize) -> Option<Leading>
     ensures inside { IfSome result (λ l. at + leading_bytes + l.len ≤ length s.now) }
 {
     let l = leading_at(s, at);
-    (at < s.len() && LEADING_BYTES + usize::from(l.len) <= s.len() - at).then_some(l)
+    l.whole.then_some(l)
 }
 
 // The field at an offset where these leading bytes stand, behind n fields with the tag prev.

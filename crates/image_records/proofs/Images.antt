@@ -1,11 +1,13 @@
 -- What an accepted image knows of its records, by the numbers of the model: b are its bytes as it holds them, s as clauses see them.
 use Prim.Native.Nat.{ℕ, ◌+◌, ◌*◌, ◌<◌, ◌≤◌}
+use native.Mathlib.Omega.{arith}
 use mathlib.Core.Path.{◌≡◌, refl, sym}
 use mathlib.Core.List.{List}
 use Rattle.std.specs.Prelude.{Option, Some, None, Err}
 use lib.ListN.{length, get_or, take, length-map}
-use Rattle.oce_model.specs.Format.{text_tag, block_tag, most_blocks, most_connectors, most_connections, most_external_inputs, most_boundary_inputs, most_boundary_outputs}
-use Rattle.oce_model.specs.Model.{model_of, block_count, connector_count, connection_count, boundary_input_count, boundary_output_count, ids_at, block, block_at}
+use Rattle.oce_model.specs.Format.{longest_image, text_tag, block_tag, connector_size, boundary_input_size, boundary_output_size, connector_attrs, boundary_input_attrs, boundary_output_attrs, attrs_length, most_blocks, most_connectors, most_connections, most_external_inputs, most_boundary_inputs, most_boundary_outputs}
+use Rattle.oce_model.specs.Attributes.{attrs_at}
+use Rattle.oce_model.specs.Model.{model_of, connector, boundary_input, boundary_output, block_count, connector_count, connection_count, boundary_input_count, boundary_output_count, ids_at, block, block_at}
 use Rattle.oce_model.specs.Refusals.{refusal}
 use Rattle.oce_model.specs.declared.Refusal.{Refusal}
 use Rattle.image_accept.specs.Layout.{Laid, Tabled, layout_of, section_of, offsets_of, accepts, acceptance}
@@ -13,7 +15,7 @@ use Rattle.image_accept.specs.declared.Layout.{Layout}
 use Rattle.numbers.specs.Bytes.{le16, le32}
 use Rattle.image_records.specs.Images.{block_value, BlockInside}
 use Rattle.image_records.proofs.Offsets.{cut, listed}
-use Rattle.image_records.proofs.Laws.{connectors-counted, connections-counted, externals-counted, inputs-counted, outputs-counted, blocks-counted, block-is, block_near, block_inside, input-ports-few, output-ports-few, blocks-few, connectors-few, connections-few, externals-few, boundary-inputs-few, boundary-outputs-few}
+use Rattle.image_records.proofs.Laws.{connectors-counted, connections-counted, externals-counted, inputs-counted, outputs-counted, blocks-counted, block-is, block_near, block_inside, input-ports-few, output-ports-few, blocks-few, connector-near, connector-held, connector-has, input-near, input-held, input-has, output-near, output-held, output-has, connectors-few, connections-few, externals-few, boundary-inputs-few, boundary-outputs-few}
 
 module _ {b s : List ℕ} {l : Layout} (e : b ≡ s) (h : Laid b l) where
   pub blocks-of : (l.blocks.count ≡ block_count (model_of s)) × (l.blocks.count ≤ most_blocks)
@@ -54,6 +56,29 @@ module _ {b s : List ℕ} {l : Layout} (e : b ≡ s) (h : Laid b l) where
     pub an-output : i < boundary_output_count (model_of s) → i < l.outputs.count
     an-output k = rw outputs-of.0 k
 
+  -- where attributes stand
+  module _ {i at : ℕ} where
+    pub connector-attrs : i < connector_count (model_of s) → at ≡ l.connectors.start + connector_size * i + connector_attrs
+        → (attrs_at s at ≡ (connector (model_of s) i).attrs) × (at ≤ longest_image + connector_attrs) × (at + attrs_length ≤ length s)
+    connector-attrs k q =
+        let m = a-connector k in
+        let n = connector-near h m in
+        rw (q, ← e) (connector-has h m refl, omega arith, connector-held h m refl)
+
+    pub input-attrs : i < boundary_input_count (model_of s) → at ≡ l.inputs.start + boundary_input_size * i + boundary_input_attrs
+        → (attrs_at s at ≡ (boundary_input (model_of s) i).attrs) × (at ≤ longest_image + connector_attrs) × (at + attrs_length ≤ length s)
+    input-attrs k q =
+        let m = an-input k in
+        let n = input-near h m in
+        rw (q, ← e) (input-has h m refl, omega arith, input-held h m refl)
+
+    pub output-attrs : i < boundary_output_count (model_of s) → at ≡ l.outputs.start + boundary_output_size * i + boundary_output_attrs
+        → (attrs_at s at ≡ (boundary_output (model_of s) i).attrs) × (at ≤ longest_image + connector_attrs) × (at + attrs_length ≤ length s)
+    output-attrs k q =
+        let m = an-output k in
+        let n = output-near h m in
+        rw (q, ← e) (output-has h m refl, omega arith, output-held h m refl)
+
   -- the field of a block
   module _ {t : List ℕ} {i : ℕ} (g : t ≡ offsets_of block_tag b) (k : i < block_count (model_of s)) where
     pub block-listed : i < length t
@@ -67,6 +92,9 @@ module _ {b s : List ℕ} {l : Layout} (e : b ≡ s) (h : Laid b l) where
 
     pub block-there : block_at b (get_or t i 0) ≡ block (model_of s) i
     block-there = sym (rw (← e) (block-is h g block-listed refl))
+
+    pub block-offset : {at : ℕ} → at ≡ get_or t i 0 → (block (model_of s) i ≡ block_at s at) × BlockInside s at
+    block-offset q = rw (q, ← e) (sym (rw (← e) at block-there), block-stands)
 
 -- a block from its parts
 pub block-whole : (s : List ℕ) (at : ℕ) {i t n o : ℕ} → i ≡ le32 s (at + 3) → t ≡ le16 s (at + 7) → n ≡ le16 s (at + 9) → o ≡ le16 s (at + 11)

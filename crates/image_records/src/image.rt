@@ -1,15 +1,16 @@
 // An accepted image, with its records by their numbers. Clauses see it as its bytes.
 
-ghost use Rattle.std.specs.Prelude.{◌≡◌, ◌<◌, ◌≤◌, ℕ, List, length, get_or};
+ghost use Rattle.std.specs.Prelude.{◌≡◌, ◌+◌, ◌<◌, ◌≤◌, ℕ, List, length, get_or};
 ghost use Rattle.std.specs.Prelude.{None};
-ghost use Rattle.oce_model.specs.Format.{text_tag, block_tag, most_blocks, most_connectors, most_connections, most_external_inputs, most_boundary_inputs, most_boundary_outputs};
-ghost use Rattle.oce_model.specs.Model.{dir_number, kind_number, model_of, block_count, connector_count, connection_count, boundary_input_count, boundary_output_count, block, connector, connection, boundary_input, boundary_output, text};
+ghost use Rattle.oce_model.specs.Format.{longest_image, connector_attrs, attrs_length, text_tag, block_tag, most_blocks, most_connectors, most_connections, most_external_inputs, most_boundary_inputs, most_boundary_outputs};
+ghost use Rattle.oce_model.specs.Attributes.{attrs_at};
+ghost use Rattle.oce_model.specs.Model.{dir_number, kind_number, model_of, block_count, connector_count, connection_count, boundary_input_count, boundary_output_count, block, block_at, connector, connection, boundary_input, boundary_output, text};
 ghost use Rattle.base.specs.Lists.{same};
 ghost use Rattle.oce_model.specs.Texts.{order};
 ghost use Rattle.oce_model.specs.Refusals.{refusal};
 ghost use Rattle.image_accept.specs.Layout.{Laid, offsets_of};
 ghost use Rattle.image_records.specs.Records.{connector_read, connection_read, output_read};
-ghost use Rattle.image_records.specs.Images.{block_value, Accepts};
+ghost use Rattle.image_records.specs.Images.{block_value, Accepts, BlockInside};
 
 use super::blocks::{Block, block_at};
 use super::connector_at;
@@ -153,12 +154,20 @@ impl<'a, 't> Image<'a, 't> {
 
     // ---- blocks
 
+    // Where block i stands.
+    pub fn block_offset(&self, i: BlockId) -> usize
+        requires { i.0 < block_count (model_of self.now) }
+        ensures { (block (model_of self.now) i.0 ≡ block_at self.now result) × BlockInside self.now result }
+    {
+        self.blocks[i.0 as usize]
+    }
+
     // Block i.
     pub fn block(&self, i: BlockId) -> Block<'a>
         requires { i.0 < block_count (model_of self.now) }
         ensures { result ≡ block_value (block (model_of self.now) i.0) }
     {
-        block_at(self.bytes, self.blocks[i.0 as usize])
+        block_at(self.bytes, self.block_offset(i))
     }
 
     // ---- connectors, connections and external inputs
@@ -176,16 +185,24 @@ impl<'a, 't> Image<'a, 't> {
         )
     }
 
-    // A connector's attributes.
-    pub fn connector_attrs(&self, i: ConnectorId) -> Attrs
+    // Where a connector's attributes stand.
+    pub fn connector_attrs_at(&self, i: ConnectorId) -> usize
         requires { i.0 < connector_count (model_of self.now) }
-        ensures { result ≡ (connector (model_of self.now) i.0).attrs }
+        ensures { (attrs_at self.now result ≡ (connector (model_of self.now) i.0).attrs) × (result ≤ longest_image + connector_attrs) × (result + attrs_length ≤ length self.now) }
     {
         let at = self
             .layout
             .connectors
             .record_at(CONNECTOR_SIZE, i.0 as usize);
-        attrs_inside(self.bytes, at + CONNECTOR_ATTRS)
+        at + CONNECTOR_ATTRS
+    }
+
+    // Its attributes.
+    pub fn connector_attrs(&self, i: ConnectorId) -> Attrs
+        requires { i.0 < connector_count (model_of self.now) }
+        ensures { result ≡ (connector (model_of self.now) i.0).attrs }
+    {
+        attrs_inside(self.bytes, self.connector_attrs_at(i))
     }
 
     // Connection k.
@@ -220,13 +237,21 @@ impl<'a, 't> Image<'a, 't> {
         u16::read(self.bytes, at + BOUNDARY_INPUT_IRI_AT)
     }
 
+    // Where its attributes stand.
+    pub fn boundary_input_attrs_at(&self, i: usize) -> usize
+        requires { i < boundary_input_count (model_of self.now) }
+        ensures { (attrs_at self.now result ≡ (boundary_input (model_of self.now) i).attrs) × (result ≤ longest_image + connector_attrs) × (result + attrs_length ≤ length self.now) }
+    {
+        let at = self.layout.inputs.record_at(BOUNDARY_INPUT_SIZE, i);
+        at + BOUNDARY_INPUT_ATTRS
+    }
+
     // Its attributes.
     pub fn boundary_input_attrs(&self, i: usize) -> Attrs
         requires { i < boundary_input_count (model_of self.now) }
         ensures { result ≡ (boundary_input (model_of self.now) i).attrs }
     {
-        let at = self.layout.inputs.record_at(BOUNDARY_INPUT_SIZE, i);
-        attrs_inside(self.bytes, at + BOUNDARY_INPUT_ATTRS)
+        attrs_inside(self.bytes, self.boundary_input_attrs_at(i))
     }
 
     // Boundary output i, what stands in front of its attributes.
@@ -241,12 +266,20 @@ impl<'a, 't> Image<'a, 't> {
         }
     }
 
+    // Where its attributes stand.
+    pub fn boundary_output_attrs_at(&self, i: usize) -> usize
+        requires { i < boundary_output_count (model_of self.now) }
+        ensures { (attrs_at self.now result ≡ (boundary_output (model_of self.now) i).attrs) × (result ≤ longest_image + connector_attrs) × (result + attrs_length ≤ length self.now) }
+    {
+        let at = self.layout.outputs.record_at(BOUNDARY_OUTPUT_SIZE, i);
+        at + BOUNDARY_OUTPUT_ATTRS
+    }
+
     // Its attributes.
     pub fn boundary_output_attrs(&self, i: usize) -> Attrs
         requires { i < boundary_output_count (model_of self.now) }
         ensures { result ≡ (boundary_output (model_of self.now) i).attrs }
     {
-        let at = self.layout.outputs.record_at(BOUNDARY_OUTPUT_SIZE, i);
-        attrs_inside(self.bytes, at + BOUNDARY_OUTPUT_ATTRS)
+        attrs_inside(self.bytes, self.boundary_output_attrs_at(i))
     }
 }

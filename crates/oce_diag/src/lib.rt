@@ -99,11 +99,11 @@ const ZERO_COUNT: usize = 3;
 // The numbers of the kinds of subject.
 const NO_SUBJECT: u8 = 0;
 
-const TEXT_SUBJECT: u8 = 1;
+pub const TEXT_SUBJECT: u8 = 1;
 
-const CONNECTOR_SUBJECT: u8 = 2;
+pub const CONNECTOR_SUBJECT: u8 = 2;
 
-const BLOCK_SUBJECT: u8 = 3;
+pub const BLOCK_SUBJECT: u8 = 3;
 
 // ---- making a diagnostic
 

@@ -5,7 +5,7 @@ use mathlib.Core.Bool.{Bool, true, false, cond}
 use mathlib.Core.List.{List}
 use lib.ListN.{length, take, drop, replicate, length-replicate}
 use borrow.Author.Tests.{lt-ltb, le-ltb, ltb-false}
-use Rattle.std.specs.Prelude.{Option, Result, Ok, Err, OnOk, MatchResult, IsErrAnd}
+use Rattle.std.specs.Prelude.{Option, Result, Ok, Err, IfOk, OnOk, MatchResult, IsErrAnd}
 use Rattle.std.specs.Io.KnownBytes.{Appends, Consumes}
 use Rattle.std.proofs.lemmas.Result.{err_from_is_err_and}
 use Rattle.std.specs.declared.io.Error.{Error}
@@ -57,6 +57,11 @@ taken {s} {u = u} v = arm (is_longer s) refl v.ending
 pub printed-from : {s o o' : List ℕ} (e : Result (Unit {0}) Unprinted) (a b old new : Option (List ℕ)) (room : ℕ) → OnOk e (Appends old new (printed_batch s room)) → PrintedAs s o o' e → Consumes a b s → OnOk e (PrintedFrom a b room old new)
 printed-from {s} (Ok u) a b old new room p v c = record { batch = s; read = c; taken = taken v; printed = p }
 printed-from (Err why) a b old new room p v c = tt
+
+-- the same of a reading that is given
+pub printed-read : (r : Result ℕ Error) {s o o' : List ℕ} (e : Result (Unit {0}) Unprinted) (a b old new : Option (List ℕ)) (room : ℕ) → IfOk r (λ n. Consumes a b (take n s)) → IfOk r (λ n. OnOk e (Appends old new (printed_batch (take n s) room))) → ReadAs r s o o' e → OnOk e (PrintedFrom a b room old new)
+printed-read (Ok n) e a b old new room c p v = printed-from e a b old new room p (record { written = v.written; ending = v.ending; output = v.output }) c
+printed-read (Err w) e a b old new room c p v = rw v.ending tt
 
 -- an output of so many bytes
 pub lent-room : (e : Result (Unit {0}) Unprinted) (a b old new : Option (List ℕ)) (n : ℕ) → OnOk e (PrintedFrom a b (length {A = ℕ} (replicate n 0)) old new) → OnOk e (PrintedFrom a b n old new)

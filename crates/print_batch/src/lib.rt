@@ -1,13 +1,13 @@
 // A batch of images checked, and its report printed, image by image.
 #![tactic(auto)]
 
-ghost use Rattle.std.specs.Prelude.{◌≡◌, ◌<◌, length, OnOk};
+ghost use Rattle.std.specs.Prelude.{◌≡◌, ◌<◌, length, take, IfOk, OnOk};
 ghost use Rattle.std.specs.Io.KnownBytes.{Appends};
 ghost use Rattle.batch.specs.Fields.{image_in, images};
 ghost use Rattle.batch.specs.Answer.{output_after};
 ghost use Rattle.printed_batch.specs.PrintedBatch.{image_text, image_texts, printed_batch};
 ghost use Rattle.print_batch.specs.Printing.{Left, Part};
-ghost use Rattle.print_batch.specs.Reading.{longest_batch, read_output, PrintedAs, SomeRead, PrintedFrom};
+ghost use Rattle.print_batch.specs.Reading.{longest_batch, read_output, PrintedAs, ReadAs, SomeRead, PrintedFrom};
 
 use base::part_of;
 use batch::{SUMMARY_SIZE, count_of, size_of};
@@ -114,7 +114,24 @@ fn print_read<W: Write>(to: &mut W, batch: &[u8], output: &mut [u8]) -> Result<(
     print_batch(to, batch, output).map_err(Unprinted::NotWritten)
 }
 
-// Reads a batch of an open file to the start of a buffer, which has room to notice one that is longer, and prints it.
+// Prints the batch that was read to the start of a buffer, which has room to notice one that is longer.
+fn print_input<W: Write>(
+    to: &mut W,
+    read: io::Result<usize>,
+    buffer: &[u8],
+    output: &mut [u8],
+) -> Result<(), Unprinted>
+    requires { longest_batch < length buffer.now }
+    ensures ending { ReadAs read buffer.now output.old output.new result }
+    ensures printed { IfOk read (λ n. OnOk result (Appends (W.contents to.old) (W.contents to.new) (printed_batch (take n buffer.now) (length output.old)))) }
+{
+    match read {
+        Ok(n) => print_read(to, part_of(buffer, 0, n), output),
+        Err(why) => Err(Unprinted::Unreadable(why)),
+    }
+}
+
+// Reads a batch of an open file to such a buffer and prints it.
 fn read_and_print<W: Write, R: Read>(
     to: &mut W,
     from: &mut R,
@@ -125,8 +142,8 @@ fn read_and_print<W: Write, R: Read>(
     ensures ending { SomeRead buffer.new output.old output.new result }
     ensures printed { OnOk result (PrintedFrom (R.remaining from.old) (R.remaining from.new) (length output.old) (W.contents to.old) (W.contents to.new)) }
 {
-    let n = read_from(from, buffer).map_err(Unprinted::Unreadable)?;
-    print_read(to, &buffer[..n], output)
+    let read = read_from(from, buffer);
+    print_input(to, read, buffer, output)
 }
 
 // The same with buffers of its own. Its frame is large: called from one place alone it would be inlined there.

@@ -33,7 +33,7 @@ module _ {m : Model} {k : ℕ} {ds : List ℕ} (h : Counts m k ds) where
       arm (no l) = let e : get_or ds i 0 ≡ 0 = get_or-eq_default ds 0 (omega arith) in omega arith
 
   module _ {list : List Connection} {ds' : List ℕ} (r : Reads m k (length list) list) (e : ds' ≡ counted ds list (length list)) where
-    counts-length : length ds' ≡ length ds
+    pub counts-length : length ds' ≡ length ds
     counts-length = ap length e ∙ counted-length ds list (length list)
 
     -- a portion after the first k

@@ -211,7 +211,7 @@ root-of-hit m r k h e =
     (rw some-member (rw (length-append (each k f ++ (target_of m k ∷ [])) (each y (λ i. f (k + 1 + i)))) (omega (arith, length-append (each k f) (target_of m k ∷ [])))))
 
 -- one whose list is empty is none
-root-of-none : (m : Model) (r : ℕ) → Leads m r 0 None → is_root m r ≡ false
+pub root-of-none : (m : Model) (r : ℕ) → Leads m r 0 None → is_root m r ≡ false
 unfolding is_root each
 root-of-none m r v = rw (← driven-same m r, v.found)
 

@@ -23,7 +23,7 @@ use Rattle.unify.specs.Slots.{Slots, slot, value, put}
 use Rattle.unify.specs.declared.Detail.{Detail}
 
 -- a bit's weight within a byte
-weigh : (p : ℕ) → p < 6 → 1 * 2 ^ p % 256 ≡ 2 ^ p
+pub weigh : (p : ℕ) → p < 6 → 1 * 2 ^ p % 256 ≡ 2 ^ p
 weigh zero h = refl
 weigh (suc zero) h = refl
 weigh (suc (suc zero)) h = refl
