@@ -4,7 +4,10 @@ use native.Mathlib.Omega.{arith}
 use mathlib.Core.Path.{◌≡◌, refl, sym}
 use mathlib.Core.List.{List}
 use Rattle.std.specs.Prelude.{Option, Some, None, Err}
-use lib.ListN.{length, get_or, take, length-map}
+use lib.ListN.{length, get_or, take, length-append, length-map}
+use Rattle.base.specs.Buffers.{starts_with}
+use Rattle.oce_model.specs.Image.{fields, of_tag}
+use Rattle.oce_model.specs.declared.Field.{Field}
 use Rattle.oce_model.specs.Format.{longest_image, text_tag, block_tag, connector_size, boundary_input_size, boundary_output_size, connector_attrs, boundary_input_attrs, boundary_output_attrs, attrs_length, most_blocks, most_connectors, most_connections, most_external_inputs, most_boundary_inputs, most_boundary_outputs}
 use Rattle.oce_model.specs.Attributes.{attrs_at}
 use Rattle.oce_model.specs.Model.{model_of, connector, boundary_input, boundary_output, block_count, connector_count, connection_count, boundary_input_count, boundary_output_count, ids_at, block, block_at}
@@ -113,6 +116,18 @@ module _ {s : List ℕ} {l : Layout} (h : Laid s l) {table : List ℕ} where
   pub blocks-cut : Tabled block_tag s table → take l.blocks.count table ≡ offsets_of block_tag s
   unfolding layout_of section_of
   blocks-cut g = rw h.layout (cut block_tag s g)
+
+  long : (t : ℕ) → Tabled t s table → length (of_tag t (fields s)) ≤ length table
+  unfolding offsets_of starts_with
+  long t g = let n : length (offsets_of t s) ≡ length (of_tag t (fields s)) = length-map (of_tag t (fields s)) (λ (f : Field). f.at) in rw (← n, g.offsets, length-append) (omega arith)
+
+  pub texts-long : Tabled text_tag s table → l.texts.count ≤ length table
+  unfolding layout_of section_of
+  texts-long g = rw h.layout (long text_tag g)
+
+  pub blocks-long : Tabled block_tag s table → l.blocks.count ≤ length table
+  unfolding layout_of section_of
+  blocks-long g = rw h.layout (long block_tag g)
 
 pub is-refused : (s : List ℕ) {r : Refusal} → Err r ≡ acceptance s → refusal s ≡ Some r
 unfolding acceptance

@@ -8,7 +8,7 @@ ghost use Rattle.oce_model.specs.Model.{dir_number, kind_number, model_of, block
 ghost use Rattle.base.specs.Lists.{same};
 ghost use Rattle.oce_model.specs.Texts.{order};
 ghost use Rattle.oce_model.specs.Refusals.{refusal};
-ghost use Rattle.image_accept.specs.Layout.{Laid, offsets_of};
+ghost use Rattle.image_accept.specs.Layout.{Laid, Tabled, offsets_of};
 ghost use Rattle.image_records.specs.Records.{connector_read, connection_read, output_read};
 ghost use Rattle.image_records.specs.Images.{block_value, Accepts, BlockInside};
 
@@ -47,17 +47,31 @@ impl<'a, 't> Model for Image<'a, 't> {
 }
 
 impl<'a, 't> Image<'a, 't> {
+    // An image that was accepted, of what acceptance gives: its layout, and tables that begin with the offsets of its
+    // texts and of its blocks.
+    pub fn of(
+        bytes: &'a [u8],
+        layout: Layout,
+        texts: &'t [usize],
+        blocks: &'t [usize],
+    ) -> Image<'a, 't>
+        requires { Laid bytes.now layout × Tabled text_tag bytes.now texts.now × Tabled block_tag bytes.now blocks.now }
+        ensures { result ≡ bytes.now }
+    {
+        Image {
+            bytes,
+            layout,
+            texts: &texts[..layout.texts.count],
+            blocks: &blocks[..layout.blocks.count],
+        }
+    }
+
     // Accepts an image, or says why not. The tables are room for the offsets.
     pub fn accept(bytes: &'a [u8], tables: &'t mut Tables) -> Result<Image<'a, 't>, Refusal>
         ensures { Accepts bytes.now result }
     {
         let layout = accept(bytes, tables)?;
-        Ok(Image {
-            bytes,
-            layout,
-            texts: &tables.texts[..layout.texts.count],
-            blocks: &tables.blocks[..layout.blocks.count],
-        })
+        Ok(Image::of(bytes, layout, &tables.texts, &tables.blocks))
     }
 
     // All of its bytes.
