@@ -102,6 +102,7 @@ fn list(table: &mut [usize], tag: usize, f: Field)
 
 // A field is at fault under one of refusals 4 to 8, or is the first of its tag and has a bad one. Where others of
 // its tag stand right before it, its tag is good, unless it is one too many.
+#[inline(always)]
 fn is_refused(sieve: &Sieve) -> bool
     ensures { result ≡ (at_fault sieve.now.texts sieve.now.bytes.now sieve.now.field || (eqb sieve.now.field.ord 0 && bad_tag sieve.now.field)) }
 {

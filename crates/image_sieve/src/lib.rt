@@ -69,6 +69,7 @@ impl Sieve<'_> {
     }
 
     // Its length is its tag's, and it is at fault under one of refusals 6 to 8. A block has a test of its own.
+    #[inline(always)]
     fn contents_faulty(&self) -> bool
         requires other_tag { self.now.field.tag ≢ block_tag }
         requires good_length { bad_length self.now.bytes.now self.now.field ≡ false }
@@ -90,6 +91,7 @@ impl Sieve<'_> {
     // ---- refusals 4 to 8
 
     // A block is at fault.
+    #[inline(always)]
     fn block_faulty(&self) -> bool
         requires { self.now.field.tag ≡ block_tag }
         ensures { result ≡ at_fault self.now.texts self.now.bytes.now self.now.field }
@@ -106,6 +108,7 @@ impl Sieve<'_> {
     }
 
     // Any field is at fault.
+    #[inline(always)]
     pub fn is_faulty(&self) -> bool
         ensures { result ≡ at_fault self.now.texts self.now.bytes.now self.now.field }
     {
