@@ -2,12 +2,13 @@
 use Prim.Native.Nat.{ℕ, zero, suc, ◌+◌, ◌-◌, ◌*◌, ◌/◌, ◌%◌, ◌^◌, ◌≤◌, ◌<◌}
 use native.Mathlib.Nat.{pow-succ'}
 use native.Mathlib.Omega.{arith}
-use mathlib.Core.Path.{◌≡◌, refl, ◌∙◌}
+use mathlib.Core.Path.{◌≡◌, refl, ap, ◌∙◌}
 use mathlib.Core.Bool.{Bool, true, false, cond}
-use mathlib.Core.List.{List, [], ◌∷◌, ◌++◌}
+use mathlib.Core.List.{List, [], ◌∷◌, ◌++◌, append_assoc}
 use lib.Dec.{ltb}
-use lib.ListN.{length, length-append}
+use lib.ListN.{length, take, drop, set, length-append, length-drop, length-set}
 use borrow.Author.Tests.{lt-ltb, le-ltb, ltb-true}
+use Rattle.std.proofs.lemmas.List.{drop-set, take_all}
 use Rattle.decimal.specs.Decimal.{ten, digit_zero, digit, digits_in, decimal, wide_decimal, value_of, most_digits, most_wide_digits, most_byte_digits}
 
 -- n / 10 below the next lower power
@@ -71,6 +72,45 @@ wide-front n f = rw (more-places 19 18 (n / ten) (omega arith) (omega arith)) (l
 pub decimal-byte : (n : ℕ) → n < 256 → length (decimal n) ≤ most_byte_digits
 unfolding decimal
 decimal-byte n h = rw (more-places 9 2 n (omega arith) (omega arith)) (digits-most most_byte_digits n)
+
+-- ---- the digits from the last one on
+
+-- those of n are those of rest, and behind them what stands in a buffer from an index on
+pub record Found (n rest at : ℕ) (xs : List ℕ) : Type 0 where
+  pub all : wide_decimal n ≡ wide_decimal rest ++ drop at xs
+  pub size : length xs ≡ most_wide_digits
+  pub within : at ≤ most_wide_digits
+
+module _ {n rest at : ℕ} {xs : List ℕ} (v : Found n rest at xs) where
+  -- while more than one digit is left there is room for the last of them
+  pub found_room : rest < 18446744073709551616 → ten ≤ rest → 0 < at
+  found_room f h =
+      let few : length (wide_decimal rest) + length (drop at xs) ≤ most_wide_digits = rw (← length-append (wide_decimal rest) (drop at xs), ← v.all) (wide-few n) in
+      let some : length (wide_decimal rest) ≡ length (wide_decimal (rest / ten)) + 1 = ap length (wide-more rest f h) ∙ length-append (wide_decimal (rest / ten)) (digit (rest % ten) ∷ []) in
+      omega (arith, length-drop at xs, v.size, v.within)
+
+  -- one digit more
+  pub found_more : rest < 18446744073709551616 → ten ≤ rest → Found n (rest / ten) (at - 1) (set xs (at - 1) (digit (rest % ten)))
+  found_more f h =
+      let room : 0 < at = found_room f h in
+      let d = digit (rest % ten) in
+      let put : drop (at - 1) (set xs (at - 1) d) ≡ d ∷ drop at xs = drop-set xs (at - 1) d (omega (arith, v.size, v.within)) ∙ ap (λ (i : ℕ). d ∷ drop i xs) (omega arith) in
+      record {
+        all = v.all ∙ rw (wide-more rest f h, put) (append_assoc (wide_decimal (rest / ten)) (d ∷ []) (drop at xs));
+        size = length-set xs (at - 1) d ∙ v.size;
+        within = omega (arith, v.within);
+      }
+
+  -- the first digit is what is left
+  pub found_all : rest < ten → wide_decimal n ≡ digit rest ∷ drop at xs
+  found_all h = v.all ∙ ap (λ (ys : List ℕ). ys ++ drop at xs) (wide-one rest h)
+
+  pub found_length : rest < ten → length (wide_decimal n) ≡ 1 + length (drop at xs)
+  found_length h = let e = ap length (found_all h) in omega arith
+
+  -- what stands behind it in the buffer, as a part of that
+  pub found_part : take (most_wide_digits - at) (drop at xs) ≡ drop at xs
+  found_part = take_all (most_wide_digits - at) (drop at xs) (omega (arith, length-drop at xs, v.size))
 
 -- ---- the digits stand for the number
 

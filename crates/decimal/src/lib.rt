@@ -1,9 +1,9 @@
 // Bytes and decimal numbers, put behind those of a text that has room for them.
 #![tactic(auto)]
 
-ghost use Rattle.std.specs.Prelude.{ℕ, ◌≡◌, ◌+◌, ◌≤◌, List, ◌++◌, length};
+ghost use Rattle.std.specs.Prelude.{ℕ, ◌≡◌, ◌+◌, ◌<◌, ◌≤◌, List, ◌++◌, length};
 ghost use Rattle.arrayvec.specs.ArrayVec.{array_vec_len};
-ghost use Rattle.decimal.specs.Decimal.{decimal, wide_decimal, most_digits, most_wide_digits, most_byte_digits};
+ghost use Rattle.decimal.specs.Decimal.{ten, digit, decimal, wide_decimal, most_digits, most_wide_digits, most_byte_digits};
 
 use arrayvec::ArrayVec;
 
@@ -62,17 +62,33 @@ pub fn put_bytes<const CAP: usize>(out: &mut ArrayVec<u8, CAP>, src: &[u8])
     let _ = out.try_extend_from_slice(src);
 }
 
-// A number's digits: those of a tenth of it, if that is one, then the last.
-fn digits_of(n: u64) -> ArrayVec<u8, MOST_DIGITS>
-    ensures { result.items ≡ wide_decimal n }
+// The byte of a digit.
+fn digit(d: u64) -> u8
+    requires { d < ten }
+    ensures { result ≡ digit d }
 {
-    let mut digits = if n < TEN {
-        ArrayVec::new()
-    } else {
-        digits_of(n / TEN)
-    };
-    digits.push(b'0' + (n % TEN) as u8);
-    digits
+    b'0' + d as u8
+}
+
+// Puts a number's digits behind out's bytes. They are found from the last one on, until the first is left.
+fn put_digits<const CAP: usize>(out: &mut ArrayVec<u8, CAP>, n: u64)
+    requires { array_vec_len out.old + length (wide_decimal n) ≤ CAP }
+    ensures { out.new.items ≡ out.old.items ++ wide_decimal n }
+{
+    if n < TEN {
+        out.push(digit(n));
+        return;
+    }
+    let mut digits = [0u8; MOST_DIGITS];
+    let mut at = MOST_DIGITS;
+    let mut rest = n;
+    while TEN <= rest {
+        at -= 1;
+        digits[at] = digit(rest % TEN);
+        rest /= TEN;
+    }
+    out.push(digit(rest));
+    put_bytes(out, &digits[at..]);
 }
 
 // Puts a number behind out's bytes.
@@ -81,7 +97,7 @@ pub fn put_number<N: Number, const CAP: usize>(out: &mut ArrayVec<u8, CAP>, n: N
     ensures items { out.new.items ≡ out.old.items ++ N.digits n }
     ensures few { array_vec_len out.new ≤ array_vec_len out.old + N.most }
 {
-    put_bytes(out, &digits_of(n.widened()));
+    put_digits(out, n.widened());
 }
 
 // A label, and a number behind it.
