@@ -2,13 +2,13 @@
 use Prim.Native.Nat.{ℕ, zero, suc, ◌+◌, ◌-◌, ◌*◌, ◌/◌, ◌%◌, ◌^◌, ◌≤◌, ◌<◌}
 use native.Mathlib.Nat.{pow-succ'}
 use native.Mathlib.Omega.{arith}
-use mathlib.Core.Path.{◌≡◌, refl, sym, ap, ◌∙◌}
+use mathlib.Core.Path.{◌≡◌, refl, ap, ◌∙◌}
 use mathlib.Core.Bool.{Bool, true, false, cond}
-use mathlib.Core.List.{List, [], ◌∷◌, ◌++◌, append-nil, append_assoc}
+use mathlib.Core.List.{List, [], ◌∷◌, ◌++◌, append_assoc}
 use lib.Dec.{ltb}
 use lib.ListN.{length, take, drop, set, length-append, length-drop, length-set}
 use borrow.Author.Tests.{lt-ltb, le-ltb, ltb-true}
-use Rattle.std.proofs.lemmas.List.{drop-set, drop_all, take_all}
+use Rattle.std.proofs.lemmas.List.{drop-set, take_all}
 use Rattle.decimal.specs.Decimal.{ten, digit_zero, digit, digits_in, decimal, wide_decimal, value_of, most_digits, most_wide_digits, most_byte_digits}
 
 -- n / 10 below the next lower power
@@ -80,9 +80,6 @@ pub record Found (n rest at : ℕ) (xs : List ℕ) : Type 0 where
   pub all : wide_decimal n ≡ wide_decimal rest ++ drop at xs
   pub size : length xs ≡ most_wide_digits
   pub within : at ≤ most_wide_digits
-
-pub found_none : (n : ℕ) (xs : List ℕ) → length xs ≡ most_wide_digits → Found n n most_wide_digits xs
-found_none n xs h = record { all = rw (drop_all most_wide_digits xs (omega arith)) (sym (append-nil (wide_decimal n))); size = h; within = omega arith }
 
 module _ {n rest at : ℕ} {xs : List ℕ} (v : Found n rest at xs) where
   -- while more than one digit is left there is room for the last of them

@@ -1,6 +1,6 @@
 -- `put_digits` meets its contract: a number below ten is one digit, the digits of another are found one by one.
-use Rattle.std.proofs.Common.{append_assoc, ap, length, refl, arith, rules}
-use Rattle.decimal.proofs.Decimal.{wide-one, found_none, found_room, found_more, found_all, found_length, found_part}
+use Rattle.std.proofs.Common.{append_assoc, ap, length, arith, rules}
+use Rattle.decimal.proofs.Decimal.{wide-one, found_room, found_more, found_all, found_length, found_part}
 use Rattle.decimal.proofs.put_digits.Goals as goal
 
 pub push-requires : goal.push-requires
@@ -9,26 +9,14 @@ push-requires g c = (search rules, omega (arith, ap length (wide-one c.args.n c.
 pub returns-then-n-lt-TEN : goal.returns-then-n-lt-TEN
 returns-then-n-lt-TEN g c = rw (c.push.ensures.items, c.digit.ensures, wide-one c.args.n c.if-n-lt-TEN.true)
 
-pub loop-rest-init : goal.loop-rest-init
-loop-rest-init g c = found_none _ _ refl
-
 pub overflow_sub-at : goal.overflow_sub-at
 overflow_sub-at g c = found_room c.loop-rest.invariant (omega arith) (omega arith)
-
-pub bounds-digits-at : goal.bounds-digits-at
-bounds-digits-at g c = omega (arith, found_room c.loop-rest.invariant (omega arith) (omega arith))
 
 pub loop-rest-preserved : goal.loop-rest-preserved
 loop-rest-preserved g c = rw c.digit-in-loop-rest.ensures (found_more c.loop-rest.invariant (omega arith) (omega arith))
 
 pub push-requires-2 : goal.push-requires-2
 push-requires-2 g c = (search rules, omega (arith, found_length c.loop-rest.invariant c.loop-rest-test.false))
-
-pub slice_bounds-put_bytes-count : goal.slice_bounds-put_bytes-count
-slice_bounds-put_bytes-count g c = c.loop-rest.invariant.within
-
-pub slice_bounds-put_bytes-start : goal.slice_bounds-put_bytes-start
-slice_bounds-put_bytes-start g c = search (rules, c.loop-rest.invariant.within)
 
 pub put_bytes-requires : goal.put_bytes-requires
 put_bytes-requires g c =
