@@ -3,21 +3,20 @@ use Prim.Native.Nat.{ℕ, zero, suc, ◌+◌, ◌≤◌}
 use native.Mathlib.Numerals.{add-one}
 use native.Mathlib.Omega.{arith}
 use mathlib.Core.Logic.{◌≢◌}
-use mathlib.Core.Path.{◌≡◌, refl, sym}
+use mathlib.Core.Path.{◌≡◌, refl, sym, ◌∙◌}
 use mathlib.Core.Bool.{false}
 use mathlib.Core.List.{List, [], ◌∷◌}
 use lib.Dec.{leb}
 use lib.ListN.{length}
 use borrow.Author.Tests.{le-leb, lt-leb}
-use Rattle.std.specs.Prelude.{Option, None, Some, IfSome}
-use Rattle.std.specs.Iterator.{YieldsFirst}
+use Rattle.std.specs.Prelude.{None, Some}
 use Rattle.numbers.specs.Bytes.{byte}
 use Rattle.oce_model.specs.Format.{leading_bytes}
 use Rattle.oce_model.specs.Image.{field_at, field_end, fields, fields_from, ord_of}
 use Rattle.oce_model.proofs.Fields.{field_end-past}
 use Rattle.image_framing.specs.declared.Leading.{Leading}
 use Rattle.oce_model.specs.declared.Field.{Field}
-use Rattle.image_framing.specs.Walk.{rest_at, whole_at, NoneFirst}
+use Rattle.image_framing.specs.Walk.{end_of, field_of, rest_at, whole_at, NoneFirst}
 use Rattle.image_framing.proofs.Leads.{whole-is, not-whole}
 
 -- a field that runs past the end
@@ -63,10 +62,10 @@ module _ (s : List ℕ) (at prev n : ℕ) where
 
 -- ---- the next field, by its tag
 
--- what stands first has the tag that was read
-pub first-has : {rest later : List Field} {g : Field} {t : ℕ} (rest' : List Field) (r : Option Field) → YieldsFirst (λ (l : List Field). l) rest r rest' → rest ≡ g ∷ later → g.tag ≡ t → IfSome r (λ f. (rest ≡ f ∷ rest') × (f.tag ≡ t))
-first-has rest' None h e q = tt
-first-has {rest} rest' (Some f) h e q = let k : rest ≡ f ∷ rest' = h in (k, cc)
+-- the field that was read stands first, with the tag that was read
+pub next-given : (s : List ℕ) (at prev n : ℕ) {l : Leading} {f : Field} {rest rest' : List Field} {t u : ℕ} → Some l ≡ whole_at s at → rest_at s at prev n ≡ rest → f ≡ field_of l at prev n → rest' ≡ rest_at s (end_of f) f.tag (f.ord + 1)
+    → t ≡ l.tag → t ≡ u → (rest ≡ f ∷ rest') × (f.tag ≡ u)
+next-given s at prev n {l} w v e r p q = rw (r, e) (sym v ∙ rest-next s at prev n w refl refl, sym p ∙ q)
 
 -- no field with a tag stands first, where a whole one with another does, or none
 pub not-first : {rest later : List Field} {g : Field} {t : ℕ} → rest ≡ g ∷ later → g.tag ≢ t → NoneFirst t rest

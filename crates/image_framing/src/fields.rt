@@ -1,8 +1,9 @@
 // The fields of an image as an iterator.
-ghost use Rattle.std.specs.Prelude.{◌≡◌, ◌∷◌, IfSome, None};
+ghost use Rattle.std.specs.Prelude.{◌≡◌, ◌+◌, ◌≤◌, ◌<◌, ◌∷◌, IfSome, None};
 ghost use Rattle.std.specs.Iterator.{YieldsFirst, item_count};
+ghost use Rattle.numbers.specs.Bytes.{long_range};
 ghost use Rattle.oce_model.specs.Image.{fields};
-ghost use Rattle.image_framing.specs.Walk.{NoneFirst};
+ghost use Rattle.image_framing.specs.Walk.{NoneFirst, end_of, rest_at};
 
 use crate::{end_of, field_of, whole_at};
 use oce_model::Field;
@@ -43,15 +44,31 @@ impl<'a> Fields<'a> {
         }
     }
 
+    // Those behind one of them.
+    fn behind(s: &'a [u8], f: Field) -> Fields<'a>
+        requires { (f.ord ≤ f.at) × (end_of f < long_range) }
+        ensures { result ≡ rest_at s.now (end_of f) f.tag (f.ord + 1) }
+    {
+        Fields {
+            bytes: s,
+            at: end_of(f),
+            prev: f.tag,
+            before: f.ord + 1,
+        }
+    }
+
     // The next field, if it has this tag; one with another tag stays the next.
     pub fn next_of(&mut self, tag: usize) -> Option<Field>
         ensures given { IfSome result (λ f. (self.old ≡ f ∷ self.new) × (f.tag ≡ tag)) }
         ensures left { result ≡ None → (self.new ≡ self.old) × NoneFirst tag self.old }
     {
-        match whole_at(self.bytes, self.at) {
-            Some(l) if usize::from(l.tag) == tag => self.next(),
-            _ => None,
+        let l = whole_at(self.bytes, self.at)?;
+        if usize::from(l.tag) != tag {
+            return None;
         }
+        let f = field_of(l, self.at, self.prev, self.before);
+        *self = Fields::behind(self.bytes, f);
+        Some(f)
     }
 }
 
@@ -65,9 +82,7 @@ impl Iterator for Fields<'_> {
     fn next(&mut self) -> Option<Field> {
         let l = whole_at(self.bytes, self.at)?;
         let f = field_of(l, self.at, self.prev, self.before);
-        self.at = end_of(f);
-        self.prev = f.tag;
-        self.before = f.ord + 1;
+        *self = Fields::behind(self.bytes, f);
         Some(f)
     }
 }
