@@ -77,7 +77,8 @@ fn read_few(t: &[u8], at: usize) -> u32
     }
 }
 
-// The number of a byte string of fewer than eight bytes.
+// The number of a byte string of fewer than eight bytes, put together from its parts: `read_padded` would copy
+// it, and load what was just stored in pieces.
 fn read_short(t: &[u8]) -> u64
     requires { length t.now < 8 }
     ensures { result ≡ le64 t.now 0 }
