@@ -25,6 +25,7 @@ const OUTPUT_DETAIL: u8 = 3;
 // ---- one record
 
 // Reports it, if the range of its attributes is crossed: the Rust's `report`.
+#[inline(always)]
 #[tactic(auto, unfolding(crossed_bounds::specs::CrossedBounds::crossed_faults))]
 fn put_crossed(image: &Image, a: &Attrs, detail: u8, subject: Subject, i: u32, report: &mut Report)
     requires { Room 1 report.old }
