@@ -66,9 +66,9 @@ impl<'a> Fields<'a> {
         if usize::from(l.tag) != tag {
             return None;
         }
-        let f = field_of(l, self.at, self.prev, self.before);
-        *self = Fields::behind(self.bytes, f);
-        Some(f)
+        let field = field_of(l, self.at, self.prev, self.before);
+        *self = Fields::behind(self.bytes, field);
+        Some(field)
     }
 }
 

@@ -10,4 +10,4 @@ pub returns-then-from-tag-clause-left : goal.returns-then-from-tag-clause-left
 returns-then-from-tag-clause-left c = λ e. (refl, not-first (sym c.self.view_is ∙ rest-next _ _ _ _ c.in_ok-l.ensures.whole refl refl) (λ q. c.if-from-tag.true (c.from.ensures ∙ q)))
 
 pub returns-clause-given : goal.returns-clause-given
-returns-clause-given c = next-given _ _ _ _ c.in_ok-l.ensures.whole c.self.view_is c.field_of-f.ensures (c.self-2.view_is ∙ c.behind.ensures) c.from.ensures c.if-from-tag.false
+returns-clause-given c = next-given _ _ _ _ c.in_ok-l.ensures.whole c.self.view_is c.field_of-field.ensures (c.self-2.view_is ∙ c.behind.ensures) c.from.ensures c.if-from-tag.false
