@@ -80,4 +80,3 @@ pub record Passed (t : ℕ) (s : List ℕ) (rest : List Field) (end : ℕ) (sect
   pub from : FromTag t rest
   pub text-room : most text_tag ≤ length texts
   pub block-room : most block_tag ≤ length blocks
-

@@ -20,8 +20,8 @@ use image_sieve::Sieve;
 use numbers::{LittleEndian, int_of_bits};
 use oce_model::{
     BLOCK_TAG, BOUNDARY_INPUT_TAG, BOUNDARY_OUTPUT_TAG, CONNECTION_TAG, CONNECTOR_TAG,
-    EXTERNAL_INPUT_TAG, Field, HEAD_TAG, HEAD_MAX_AT, HEAD_MIN_AT, LONGEST_IMAGE, MOST_BLOCKS, MOST_TEXTS,
-    Refusal, SHORTEST_IMAGE, TAG_COUNT, TEXT_TAG,
+    EXTERNAL_INPUT_TAG, Field, HEAD_MAX_AT, HEAD_MIN_AT, HEAD_TAG, LONGEST_IMAGE, MOST_BLOCKS,
+    MOST_TEXTS, Refusal, SHORTEST_IMAGE, TAG_COUNT, TEXT_TAG,
 };
 
 // Where the records of a tag begin, and how many there are.
@@ -255,11 +255,11 @@ impl GoodSize<'_> {
         ensures { result ≡ refused (refusals_from 5 4 self.now.bytes.now (fields self.now.bytes.now)) }
     {
         let s = self.bytes;
-        let n = self.text_count();
         self.refuse_first(BAD_LENGTH, |f| bad_length(s, f))?;
         self.refuse_first(TOO_MANY, too_many)?;
         self.refuse_first(BAD_CONTENTS, |f| bad_contents(s, f))?;
         self.refuse_first(BAD_TEXT, |f| bad_text(s, f))?;
+        let n = self.text_count();
         self.refuse_first(BAD_REFERENCE, |f| bad_reference(n, s, f))
     }
 

@@ -13,4 +13,3 @@ pub record Copied (dst₀ : List ℕ) (at : ℕ) (src dst : List ℕ) (i : ℕ) 
 
 abbrev pub invariant-loop-i : goal.invariant-loop-i
 invariant-loop-i l = Copied l.initial.dst l.at l.src l.dst l.i
-

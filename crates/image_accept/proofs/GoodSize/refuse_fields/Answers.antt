@@ -1,5 +1,8 @@
 -- `refuse_fields` meets its contract: one refusal after the other.
-use Rattle.std.proofs.Common.{rules, tests}
+use Rattle.std.proofs.Common.{rules, tests, ◌≡◌, length}
+use mathlib.Core.Path.{refl}
+use Rattle.oce_model.specs.Format.{text_tag}
+use Rattle.oce_model.specs.Image.{fields, of_tag}
 use Rattle.std.proofs.lemmas.Result.{err_from_is_err_and}
 use Rattle.oce_model.specs.Refusals.{fault, bad_length, too_many, bad_contents, bad_text, bad_reference}
 use Rattle.image_accept.proofs.Refusals.{refusing-start, refusing-next, refusing-found, refusing-last}
@@ -8,7 +11,7 @@ use Rattle.image_accept.proofs.GoodSize.refuse_fields.Goals as goal
 pub returns-in_err-refuse_first : goal.returns-in_err-refuse_first
 unfolding fault
 returns-in_err-refuse_first c =
-    let n = c.text_count-n.ensures in
+    let n : length (of_tag text_tag (fields c.args.self.now.bytes.now)) ≡ length (of_tag text_tag (fields c.args.self.now.bytes.now)) = refl in
     let r4 = c.refuse_first.ensures (bad_length c.args.self.now.bytes.now) (λ f r h k. search (rules, tests)) in
     let p = err_from_is_err_and c.from_residual.result c.from_residual.ensures.1 in
     refusing-found (refusing-start c.args.self.now.bytes.now) n r4 c.in_err-refuse_first.was p.1 p.2
@@ -16,7 +19,7 @@ returns-in_err-refuse_first c =
 pub returns-in_err-refuse_first-2 : goal.returns-in_err-refuse_first-2
 unfolding fault
 returns-in_err-refuse_first-2 c =
-    let n = c.text_count-n.ensures in
+    let n : length (of_tag text_tag (fields c.args.self.now.bytes.now)) ≡ length (of_tag text_tag (fields c.args.self.now.bytes.now)) = refl in
     let r4 = c.refuse_first.ensures (bad_length c.args.self.now.bytes.now) (λ f r h k. search (rules, tests)) in
     let v1 = refusing-next (refusing-start c.args.self.now.bytes.now) n r4 c.in_ok-refuse_first.was in
     let r5 = c.refuse_first-2.ensures too_many (λ f r h k. search (rules, tests)) in
@@ -26,7 +29,7 @@ returns-in_err-refuse_first-2 c =
 pub returns-in_err-refuse_first-3 : goal.returns-in_err-refuse_first-3
 unfolding fault
 returns-in_err-refuse_first-3 c =
-    let n = c.text_count-n.ensures in
+    let n : length (of_tag text_tag (fields c.args.self.now.bytes.now)) ≡ length (of_tag text_tag (fields c.args.self.now.bytes.now)) = refl in
     let r4 = c.refuse_first.ensures (bad_length c.args.self.now.bytes.now) (λ f r h k. search (rules, tests)) in
     let v1 = refusing-next (refusing-start c.args.self.now.bytes.now) n r4 c.in_ok-refuse_first.was in
     let r5 = c.refuse_first-2.ensures too_many (λ f r h k. search (rules, tests)) in
@@ -38,7 +41,7 @@ returns-in_err-refuse_first-3 c =
 pub returns-in_err-refuse_first-4 : goal.returns-in_err-refuse_first-4
 unfolding fault
 returns-in_err-refuse_first-4 c =
-    let n = c.text_count-n.ensures in
+    let n : length (of_tag text_tag (fields c.args.self.now.bytes.now)) ≡ length (of_tag text_tag (fields c.args.self.now.bytes.now)) = refl in
     let r4 = c.refuse_first.ensures (bad_length c.args.self.now.bytes.now) (λ f r h k. search (rules, tests)) in
     let v1 = refusing-next (refusing-start c.args.self.now.bytes.now) n r4 c.in_ok-refuse_first.was in
     let r5 = c.refuse_first-2.ensures too_many (λ f r h k. search (rules, tests)) in
