@@ -1,11 +1,12 @@
 -- Laws of a subject's text: what is put, written and read in each case, and that reading after writing gives it.
 use Prim.Native.Nat.{ℕ, ◌≤◌}
 use native.Mathlib.Omega.{arith}
-use mathlib.Core.Path.{◌≡◌, refl}
+use mathlib.Core.Logic.{◌⊎◌, inl, inr}
+use mathlib.Core.Path.{◌≡◌, refl, sym, ap, ◌∙◌}
 use mathlib.Core.Bool.{Bool, true, false, cond}
 use mathlib.Core.List.{List, [], ◌++◌}
 use Rattle.std.specs.Prelude.{Option, Some, None}
-use lib.Dec.{eqb}
+use lib.Dec.{eqb, ltb}
 use lib.ListN.{length, take, drop, length-append}
 use lib.Seq.{take-append_seam}
 use borrow.Author.Tests.{le-ltb, eqb-true}
@@ -19,8 +20,9 @@ use Rattle.decimal.proofs.Decimal.{decimal-few}
 use Rattle.oce_diag.specs.Decoded.{subject_from}
 use Rattle.oce_diag.specs.Diagnostics.{connector_id, block_id}
 use Rattle.oce_diag.specs.Encoding.{text_subject_kind, connector_subject_kind, block_subject_kind}
+use Rattle.oce_diag.specs.declared.Subject.{Subject}
 use Rattle.oce_diag.specs.declared.Subject.TheVariants.{Nothing, Text, Connector, Block}
-use Rattle.subject.specs.Subject.{connector_label, block_label, least_scratch, labelled, label, subject_text, if_room, written, scratch_after, part_of, part}
+use Rattle.subject.specs.Subject.{connector_label, block_label, least_scratch, labelled, label, subject_text, if_room, unless_refused, written, scratch_after, part_of, part}
 
 -- ---- where there is room
 
@@ -113,3 +115,22 @@ module _ (s xs : List ℕ) (kind n : ℕ) (h : least_scratch ≤ length xs) wher
   -- a subject's text is read where it was written, in a scratch that has room
   pub read-written : part s (scratch_after s kind n xs) kind n ≡ subject_text s kind n
   read-written = by-refusal (refusal s) refl
+
+-- where a subject has no label, nothing is written
+unlabelled : {x : Subject} → (x ≡ Nothing) ⊎ ((t : ℕ) × (x ≡ Text t)) → label x ≡ []
+unfolding labelled
+unlabelled (inl e) = rw e refl
+unlabelled (inr p) = rw p.1 refl
+
+module _ (s scratch : List ℕ) (kind n : ℕ) {x : Subject} (e : x ≡ subject_from kind n) (h : (x ≡ Nothing) ⊎ ((t : ℕ) × (x ≡ Text t))) where
+  none-labelled : labelled kind n ≡ []
+  none-labelled = sym (label_from kind n) ∙ ap label (sym e) ∙ unlabelled h
+
+  pub none-written : written s kind n scratch ≡ []
+  unfolding written if_room
+  none-written = rw none-labelled (arm (refusal s) (ltb (length scratch) least_scratch))
+    where
+      arm : (o : Option Refusal) (b : Bool) → unless_refused o (cond b [] []) ≡ []
+      arm None true = refl
+      arm None false = refl
+      arm (Some r) b = refl

@@ -83,9 +83,8 @@ pub fn accepted_subject<'a>(
     }
 }
 
-// Writes a subject's text at the start of the scratch, if it isn't a part of the image, and gives the
-// length written.
-pub fn write_subject(image: &[u8], kind: u8, number: u32, scratch: &mut [u8]) -> usize
+// Writes a label for an accepted image.
+fn write_accepted(image: &[u8], kind: u8, number: u32, scratch: &mut [u8]) -> usize
     ensures length { result ≡ length (written image.now kind number scratch.old) }
     ensures scratch { scratch.new ≡ scratch_after image.now kind number scratch.old }
 {
@@ -93,6 +92,18 @@ pub fn write_subject(image: &[u8], kind: u8, number: u32, scratch: &mut [u8]) ->
     match Image::accept(image, &mut tables) {
         Ok(_) => write_label(kind, number, scratch),
         Err(_) => 0,
+    }
+}
+
+// Writes a subject's text at the start of the scratch, if it isn't a part of the image, and gives the
+// length written. Where nothing is written, the image isn't gone through.
+pub fn write_subject(image: &[u8], kind: u8, number: u32, scratch: &mut [u8]) -> usize
+    ensures length { result ≡ length (written image.now kind number scratch.old) }
+    ensures scratch { scratch.new ≡ scratch_after image.now kind number scratch.old }
+{
+    match subject_from(kind, number) {
+        Subject::Nothing | Subject::Text(_) => 0,
+        Subject::Connector(_) | Subject::Block(_) => write_accepted(image, kind, number, scratch),
     }
 }
 
