@@ -1,7 +1,7 @@
 // Every byte string is accepted, with its layout, or refused with the first refusal that applies.
 #![tactic(auto)]
 
-ghost use Rattle.std.specs.Prelude.{◌≡◌, ◌∷◌, ◌&&◌, ◌||◌, eqb, ◌+◌, ◌*◌, ◌<◌, ◌≤◌, ◌^◌, length, Bool, None, IfSome, IfNone, ◌≢◌};
+ghost use Rattle.std.specs.Prelude.{◌≡◌, ◌&&◌, ◌||◌, eqb, ◌+◌, ◌*◌, ◌<◌, ◌≤◌, ◌^◌, length, Bool, None, IfSome, IfNone, ◌≢◌};
 ghost use Rattle.std.specs.Result.{result_ok};
 ghost use Rattle.oce_model.specs.Format.{text_tag, block_tag, highest_tag, shortest_image, longest_image};
 ghost use Rattle.oce_model.specs.Image.{fields, first, of_tag};
@@ -110,39 +110,8 @@ fn is_refused(sieve: &Sieve) -> bool
 }
 
 impl GoodSize<'_> {
-    // Passes a field, behind which others are left, unless it is at fault under one of refusals 4 to 8: whether it isn't.
-    #[inline(always)]
-    fn step<const TAG: usize>(
-        &self,
-        f: Field,
-        left: &Fields,
-        sections: &mut [Section; TAG_COUNT],
-        tables: &mut Tables,
-        end: &mut usize,
-    ) -> Option<()>
-        requires passed { Passed TAG self.now.bytes.now (f ∷ left.now) end.old sections.old tables.old.texts tables.old.blocks }
-        requires tag { f.tag ≡ TAG }
-        ensures passed { IfSome result (λ u. Passed TAG self.now.bytes.now left.now end.new sections.new tables.new.texts tables.new.blocks) }
-        ensures refused { IfNone result (refusal self.now.bytes.now ≢ None) }
-    {
-        let sieve = Sieve {
-            texts: sections[TEXT_TAG].count,
-            bytes: self.bytes,
-            field: f,
-        };
-        if is_refused(&sieve) {
-            return None;
-        }
-        note(sections, f);
-        list(&mut tables.texts, TEXT_TAG, f);
-        list(&mut tables.blocks, BLOCK_TAG, f);
-        *end = end_of(f);
-        Some(())
-    }
-
     // Passes the fields that come next and have a tag, up to the first that is at fault under one of refusals 2 to 8.
-    // The tag is a constant, so that each tag has a loop with its own tests alone; the first field stands in front of
-    // the loop, behind whose fields another with the tag always stands.
+    // The tag is a constant, so that each tag has a loop with its own tests alone.
     #[inline(always)]
     fn pass<const TAG: usize>(
         &self,
@@ -155,11 +124,19 @@ impl GoodSize<'_> {
         ensures passed { IfSome result (λ u. Passed (TAG + 1) self.now.bytes.now fields.new end.new sections.new tables.new.texts tables.new.blocks) }
         ensures refused { IfNone result (refusal self.now.bytes.now ≢ None) }
     {
-        if let Some(first) = fields.next_of(TAG) {
-            self.step::<TAG>(first, fields, sections, tables, end)?;
-            while let Some(f) = fields.next_of(TAG) {
-                self.step::<TAG>(f, fields, sections, tables, end)?;
+        while let Some(f) = fields.next_of(TAG) {
+            let sieve = Sieve {
+                texts: sections[TEXT_TAG].count,
+                bytes: self.bytes,
+                field: f,
+            };
+            if is_refused(&sieve) {
+                return None;
             }
+            note(sections, f);
+            list(&mut tables.texts, TEXT_TAG, f);
+            list(&mut tables.blocks, BLOCK_TAG, f);
+            *end = end_of(f);
         }
         Some(())
     }

@@ -35,7 +35,6 @@ impl Sieve<'_> {
     // ---- contents
 
     // The attributes at an offset of the field, at fault under refusal 6 or 8.
-    #[inline(always)]
     #[tactic(auto, unfolding(crate::specs::Faulty::attrs_faulty))]
     fn attrs_faulty(&self, at: usize) -> bool
         requires { at + attrs_length ≤ leading_bytes + self.now.field.len }
@@ -46,7 +45,6 @@ impl Sieve<'_> {
     }
 
     // The same of a connector.
-    #[inline(always)]
     #[tactic(auto, unfolding(crate::specs::Faulty::connector_faulty, oce_model::specs::Model::connector_at, oce_model::specs::Refusals::bad_connector))]
     fn connector_faulty(&self) -> bool
         requires { connector_size ≤ leading_bytes + self.now.field.len }
@@ -62,7 +60,6 @@ impl Sieve<'_> {
     }
 
     // The same of a boundary record, whose attributes stand at an offset of it.
-    #[inline(always)]
     #[tactic(auto, unfolding(crate::specs::Faulty::boundary_faulty))]
     fn boundary_faulty(&self, attrs: usize) -> bool
         requires { (boundary_input_attrs ≤ attrs) × (attrs + attrs_length ≤ leading_bytes + self.now.field.len) }
