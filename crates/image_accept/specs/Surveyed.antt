@@ -49,6 +49,7 @@ pub record Told (s : List ℕ) (done rest : List Field) (sections : List Section
   pub each : (t : ℕ) → 1 ≤ t → t ≤ highest_tag → get_or sections t none ≡ told s done t
   pub reached : (t : ℕ) → 1 ≤ t → t ≤ passing.prev → (x : ℕ) × (first (reaches t) done ≡ Some x)
 
+-- where the fields with a tag stand, of some fields
 abbrev pub offsets : ℕ → List Field → List ℕ
 offsets t l = map (λ (f : Field). f.at) (of_tag t l)
 
@@ -72,7 +73,7 @@ abbrev pub FromTag : ℕ → List Field → Type 0
 FromTag t [] = Unit {0}
 FromTag t (f ∷ fs) = bad_tag f ≡ false → t ≤ f.tag
 
--- the same of fields with tags below t, with tables that have room, whatever stood in them
+-- the same, where the next field has the tag t or a higher one, and the tables have room, whatever stood in them before
 pub record Passed (t : ℕ) (s : List ℕ) (rest : List Field) (end : ℕ) (sections : List Section) (texts blocks : List ℕ) : Type 0 where
   pub texts₀ : List ℕ
   pub blocks₀ : List ℕ
